@@ -1,0 +1,7 @@
+pub mod Choice
+pub mod Groups
+pub mod Turns
+pub mod Stores
+pub mod Reading
+pub mod RoundTrip
+pub mod Marked

@@ -1,0 +1,207 @@
+-- Laws of reading, for any most bytes and most bits: the three answers, the bounds of a number, and that only its own bytes count.
+-- Assumes nothing.
+use Prim.Native.Nat.{ℕ, zero, suc, _+_, _-_, _*_, _%_, _^_, _≤_, _<_}
+use mathlib.Core.Path.{_≡_, refl, ap, sym, _∙_, subst}
+use mathlib.Core.Logic.{_⊎_, inl, inr, ⊎-elim}
+use mathlib.Core.Bool.{Bool, true, false}
+use mathlib.Core.List.{List, [], _∷_, _++_}
+use native.Mathlib.Nat.{zero-add, suc-add}
+use native.Mathlib.Omega.{arith}
+use borrow.Author.Tests.{ltb-true, ltb-false}
+use lib.Arith.{digits-lt}
+use lib.Dec.{ltb}
+use lib.Pow.{pow-add}
+use lib.ListN.{length, take, drop, length-drop}
+use lib.Seq.{take-append-le, take-nil}
+use Rattle.number.specs.Reader.{Reading, number, refused, continued, readGroups, readNumber, groupCount, numberEnd}
+use Rattle.number.proofs.Groups.{continued-zero, continued-high, front-last, front-large, front-more, front-none, count-last, count-more, front-ends}
+
+pub below-or-not : (m n : ℕ) → (m < n) ⊎ (n ≤ m)
+below-or-not m n = go (ltb m n) refl
+  where
+    go : (b : Bool) → ltb m n ≡ b → (m < n) ⊎ (n ≤ m)
+    go true e = inl (ltb-true m n e)
+    go false e = inr (ltb-false m n e)
+
+shifted-below : (bits low high : ℕ) → low < 128 → 0 < high → high < 2 ^ (bits - 7) → low + high * 128 < 2 ^ bits
+shifted-below bits low high l some h = ⊎-elim few many (below-or-not bits 7)
+  where
+    few : bits < 7 → low + high * 128 < 2 ^ bits
+    few k = absurd (omega (arith, subst (λ (n : ℕ). high < 2 ^ n) (none k) h))
+      where
+        none : bits < 7 → bits - 7 ≡ 0
+        none k = omega arith
+
+    many : 7 ≤ bits → low + high * 128 < 2 ^ bits
+    many k =
+        let e : 2 ^ bits ≡ 2 ^ (bits - 7) * 128 = ap (λ (n : ℕ). 2 ^ n) (whole k) ∙ pow-add 2 (bits - 7) 7 in
+        let d : high * 128 + low < 2 ^ (bits - 7) * 128 = digits-lt h l in
+        omega arith
+      where
+        whole : 7 ≤ bits → bits ≡ bits - 7 + 7
+        whole k = omega arith
+
+-- ---- at the front of a list
+
+-- What reading the groups at the front can tell.
+pub data Told (most bits place : ℕ) (bytes : List ℕ) : Reading → Type 0 where
+  accepted : (value next : ℕ) → value < 2 ^ bits → next ≡ place + groupCount most bytes → 0 < groupCount most bytes
+      → groupCount most bytes ≤ length bytes → Told most bits place bytes (number value next)
+  cut : length bytes ≤ groupCount most bytes → Told most bits place bytes (refused 17)
+  malformed : Told most bits place bytes (refused 18)
+
+module _ (most bits place byte : ℕ) (bytes : List ℕ) where
+  told-last : byte < 128 → Told (suc most) bits place (byte ∷ bytes) (readGroups (suc most) bits place (byte ∷ bytes))
+  told-last h =
+      let one = count-last most byte bytes h in
+      ⊎-elim
+      (λ k. rw (front-last most bits place byte bytes h k) (accepted byte (place + 1) k (omega arith) (omega arith) (omega arith)))
+      (λ k. rw (front-large most bits place byte bytes h k) malformed)
+      (below-or-not byte (2 ^ bits))
+
+  told-more : 128 ≤ byte → (r : Reading) → Told most (bits - 7) (place + 1) bytes r → Told (suc most) bits place (byte ∷ bytes) (continued (byte % 128) 128 r)
+  unfolding continued
+  told-more h r (accepted zero next small end some few) = rw continued-zero malformed
+  told-more h r (accepted (suc high) next small end some few) =
+      let more = count-more most byte bytes h in
+      rw (continued-high (byte % 128) 128 (suc high) next (omega arith)) (accepted _ next below (omega arith) (omega arith) (omega arith))
+    where
+      below : byte % 128 + suc high * 128 < 2 ^ bits
+      below = shifted-below bits (byte % 128) (suc high) (omega arith) (omega arith) small
+  told-more h r (cut whole) = cut (omega (arith, count-more most byte bytes h))
+  told-more h r malformed = malformed
+
+pub told-front : (most bits place : ℕ) (bytes : List ℕ) → Told most bits place bytes (readGroups most bits place bytes)
+unfolding readGroups
+told-front zero bits place bytes = malformed
+told-front (suc most) bits place [] = cut (omega arith)
+told-front (suc most) bits place (byte ∷ bytes) =
+    ⊎-elim (told-last most bits place byte bytes)
+    (λ h. rw (front-more most bits place byte bytes h) (told-more most bits place byte bytes h _ (told-front most (bits - 7) (place + 1) bytes)))
+    (below-or-not byte 128)
+
+module _ (most bits place byte : ℕ) (bytes : List ℕ) where
+  alike-last : byte < 128 → (others : List ℕ) → take 1 others ≡ byte ∷ [] → readGroups (suc most) bits place others ≡ readGroups (suc most) bits place (byte ∷ bytes)
+  alike-last h [] e = let z : _≡_ {A = ℕ} 0 1 = cc in absurd (omega arith)
+  alike-last h (other ∷ others) e =
+      let same : other ≡ byte = cc in
+      ap (λ (b : ℕ). readGroups (suc most) bits place (b ∷ others)) same
+      ∙ front-ends most bits place byte others h
+      ∙ sym (front-ends most bits place byte bytes h)
+
+  alike-more : 128 ≤ byte → (count : ℕ)
+      → ((rest : List ℕ) → take count rest ≡ take count bytes → readGroups most (bits - 7) (place + 1) rest ≡ readGroups most (bits - 7) (place + 1) bytes)
+      → (others : List ℕ) → take (suc count) others ≡ byte ∷ take count bytes → readGroups (suc most) bits place others ≡ readGroups (suc most) bits place (byte ∷ bytes)
+  alike-more h count rest-alike [] e = let z : _≡_ {A = ℕ} 0 1 = cc in absurd (omega arith)
+  alike-more h count rest-alike (other ∷ others) e =
+      let same : other ≡ byte = cc in
+      let agree : take count others ≡ take count bytes = cc in
+      ap (λ (b : ℕ). readGroups (suc most) bits place (b ∷ others)) same
+      ∙ front-more most bits place byte others h
+      ∙ ap (continued (byte % 128) 128) (rest-alike others agree)
+      ∙ sym (front-more most bits place byte bytes h)
+
+-- Bytes that agree with these up to the number's end are read alike, unless these are cut short.
+pub front-alike : (most bits place : ℕ) (bytes others : List ℕ) → (readGroups most bits place bytes ≡ refused 17 → ⊥)
+    → take (groupCount most bytes) others ≡ take (groupCount most bytes) bytes
+    → readGroups most bits place others ≡ readGroups most bits place bytes
+unfolding readGroups continued
+front-alike zero bits place bytes others whole e = refl
+front-alike (suc most) bits place [] others whole e = absurd (whole refl)
+front-alike (suc most) bits place (byte ∷ bytes) others whole e =
+    ⊎-elim
+    (λ h. alike-last most bits place byte bytes h others (subst (λ (k : ℕ). take k others ≡ take k (byte ∷ bytes)) (count-last most byte bytes h) e))
+    (λ h.
+    alike-more most bits place byte bytes h (groupCount most bytes)
+    (λ rest agree. front-alike most (bits - 7) (place + 1) bytes rest (λ c. whole (front-more most bits place byte bytes h ∙ ap (continued (byte % 128) 128) c)) agree)
+    others (subst (λ (k : ℕ). take k others ≡ take k (byte ∷ bytes)) (count-more most byte bytes h) e))
+    (below-or-not byte 128)
+
+-- ---- at a place of the input
+
+module _ (most bits : ℕ) (input : List ℕ) (place : ℕ) where
+  -- one of the three answers always comes
+  pub one-of-three :
+      ((value : ℕ) × (next : ℕ) × (readNumber most bits input place ≡ number value next))
+      ⊎ ((readNumber most bits input place ≡ refused 17) ⊎ (readNumber most bits input place ≡ refused 18))
+  unfolding readNumber
+  one-of-three = go _ refl (told-front most bits place (drop place input))
+    where
+      go : (r : Reading) → readNumber most bits input place ≡ r → Told most bits place (drop place input) r
+          → ((value : ℕ) × (next : ℕ) × (readNumber most bits input place ≡ number value next))
+          ⊎ ((readNumber most bits input place ≡ refused 17) ⊎ (readNumber most bits input place ≡ refused 18))
+      go r e (accepted value next small end some few) = inl (value, next, e)
+      go r e (cut whole) = inr (inl e)
+      go r e malformed = inr (inr e)
+
+  -- a number that is cut short goes on to the input's end
+  pub cut-reaches-end : readNumber most bits input place ≡ refused 17 → length input ≤ numberEnd most input place
+  unfolding readNumber numberEnd
+  cut-reaches-end e = go (subst (Told most bits place (drop place input)) e (told-front most bits place (drop place input)))
+    where
+      go : Told most bits place (drop place input) (refused 17) → length input ≤ place + groupCount most (drop place input)
+      go (cut whole) = omega (arith, length-drop place input)
+
+  module _ (value next : ℕ) (e : readNumber most bits input place ≡ number value next) where
+    told-number : Told most bits place (drop place input) (number value next)
+    unfolding readNumber
+    told-number = subst (Told most bits place (drop place input)) e (told-front most bits place (drop place input))
+
+    -- the value fits
+    pub number-below : value < 2 ^ bits
+    number-below = go told-number
+      where
+        go : Told most bits place (drop place input) (number value next) → value < 2 ^ bits
+        go (accepted v n small end some few) = small
+
+    pub number-end : next ≡ numberEnd most input place
+    unfolding numberEnd
+    number-end = go told-number
+      where
+        go : Told most bits place (drop place input) (number value next) → next ≡ place + groupCount most (drop place input)
+        go (accepted v n small end some few) = end
+
+    -- the next place is past this one
+    pub number-after : place < next
+    number-after = go told-number
+      where
+        go : Told most bits place (drop place input) (number value next) → place < next
+        go (accepted v n small end some few) = omega arith
+
+    -- and not past the input's end
+    pub number-within : next ≤ length input
+    number-within = go told-number
+      where
+        go : Told most bits place (drop place input) (number value next) → next ≤ length input
+        go (accepted v n small end some few) = omega (arith, length-drop place input)
+
+drop-take : (place count : ℕ) (input : List ℕ) → drop place (take (place + count) input) ≡ take count (drop place input)
+drop-take zero count input = ap (λ (k : ℕ). take k input) (zero-add count)
+drop-take (suc place) count [] = ap (drop (suc place)) (take-nil (suc place + count)) ∙ sym (take-nil count)
+drop-take (suc place) count (byte ∷ input) =
+    ap (λ (k : ℕ). drop (suc place) (take k (byte ∷ input))) (suc-add place count) ∙ drop-take place count input
+
+module _ (most bits : ℕ) (input other : List ℕ) (place : ℕ) where
+  -- An answer other than 17 depends only on the bytes up to the number's end.
+  pub answer-alike : (readNumber most bits input place ≡ refused 17 → ⊥)
+      → take (numberEnd most input place) other ≡ take (numberEnd most input place) input
+      → readNumber most bits other place ≡ readNumber most bits input place
+  unfolding readNumber numberEnd
+  answer-alike whole agree =
+      let count : ℕ = groupCount most (drop place input) in
+      front-alike most bits place (drop place input) (drop place other) whole
+      (sym (drop-take place count other) ∙ ap (drop place) agree ∙ drop-take place count input)
+
+  pub number-alike : (value next : ℕ) → readNumber most bits input place ≡ number value next → take next other ≡ take next input
+      → readNumber most bits other place ≡ number value next
+  number-alike value next e agree =
+      answer-alike (λ c. let z : _≡_ {A = ℕ} 0 1 = cc in omega arith)
+      (subst (λ (k : ℕ). take k other ≡ take k input) (number-end most bits input place value next e) agree)
+      ∙ e
+
+-- What follows a number does not matter.
+pub number-extends : (most bits : ℕ) (input more : List ℕ) (place value next : ℕ) → readNumber most bits input place ≡ number value next
+    → readNumber most bits (input ++ more) place ≡ number value next
+number-extends most bits input more place value next e =
+    number-alike most bits input (input ++ more) place value next e
+    (take-append-le next input more (number-within most bits input place value next e))

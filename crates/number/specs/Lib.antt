@@ -1,0 +1,4 @@
+pub mod Choice
+pub mod Reader
+pub mod Writer
+pub mod Answers
