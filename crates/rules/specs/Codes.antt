@@ -1,0 +1,93 @@
+-- The answers' numbers, by meaning.
+-- Assumes nothing.
+use Prim.Native.Nat.{ℕ}
+use lib.IntN.{ℤ, pos, negsuc, _-ℤ_}
+
+-- ---- TX (document 002)
+abbrev pub txOk : ℤ
+txOk = pos 0
+
+abbrev pub txNotSupported : ℤ
+txNotSupported = pos 1
+
+abbrev pub txRollback : ℤ
+txRollback = negsuc 1
+
+abbrev pub txProtocolError : ℤ
+txProtocolError = negsuc 4
+
+abbrev pub txError : ℤ
+txError = negsuc 5
+
+abbrev pub txEinval : ℤ
+txEinval = negsuc 7
+
+-- TX_NO_BEGIN and its kin: the transaction is over as the code says, and no new one could begin
+unfoldable pub noBegin : ℤ → ℤ
+noBegin code = code -ℤ pos 100
+
+-- ---- refusals of a list, a record or a call
+abbrev pub tooLittleRoom : ℤ
+tooLittleRoom = pos 16
+
+abbrev pub cutShort : ℤ
+cutShort = pos 17
+
+abbrev pub unsound : ℤ
+unsound = pos 19
+
+abbrev pub unknownKind : ℤ
+unknownKind = pos 20
+
+abbrev pub unknownParty : ℤ
+unknownParty = pos 21
+
+-- ---- refusals of the XATMI kinds
+abbrev pub badArgument : ℤ
+badArgument = pos 22
+
+-- not now: the caller's or the end's state forbids it
+abbrev pub notAllowedNow : ℤ
+notAllowedNow = pos 23
+
+abbrev pub noSuchEnd : ℤ
+noSuchEnd = pos 24
+
+abbrev pub notOffered : ℤ
+notOffered = pos 25
+
+abbrev pub noRoomLeft : ℤ
+noRoomLeft = pos 26
+
+abbrev pub inTransaction : ℤ
+inTransaction = pos 27
+
+abbrev pub timedOut : ℤ
+timedOut = pos 28
+
+-- 32, by the four places that answer it
+abbrev pub nothingWaiting : ℤ
+nothingWaiting = pos 32
+
+abbrev pub noReplyYet : ℤ
+noReplyYet = pos 32
+
+abbrev pub nothingUnread : ℤ
+nothingUnread = pos 32
+
+abbrev pub unreadFull : ℤ
+unreadFull = pos 32
+
+-- ---- accepted by the XATMI kinds
+abbrev pub accepted : ℤ
+accepted = pos 0
+
+-- TPEEVENT: an event came, which the answer names
+abbrev pub tpeEvent : ℤ
+tpeEvent = pos 29
+
+abbrev pub tpeSvcFail : ℤ
+tpeSvcFail = pos 30
+
+abbrev pub tpeSvcErr : ℤ
+tpeSvcErr = pos 31

@@ -1,0 +1,166 @@
+-- Kinds 12 to 16: a request, a connect, the dispatch of a waiting link, and a request's reply fetched or given up.
+-- Assumes nothing.
+use Prim.Native.Nat.{ℕ, _+_, _/_, _%_}
+use mathlib.Core.Bool.{Bool, true, false, not, _&&_, _||_}
+use lib.ListN.{getD, replicate}
+use lib.Dec.{eqb, ltb, leb}
+use lib.IntN.{ℤ, pos}
+use Rattle.rules.specs.Choice.{pick, same}
+use Rattle.rules.specs.Codes.{badArgument, notAllowedNow, noSuchEnd, notOffered, noRoomLeft, inTransaction, timedOut, nothingWaiting, noReplyYet, accepted, tpeSvcFail, tpeSvcErr}
+use Rattle.rules.specs.Lists.{firstOf, anyOf}
+use Rattle.rules.specs.Record.{freshLink, isOpened, isRequest, isConversation, isWaiting, isReturned, ownEnd, party, live, linkOf, withParty, replaced, changed, removed, added, closed, valued, ask}
+use Rattle.rules.specs.Transaction.{txOf, ended, expired}
+use Rattle.rules.specs.Services.{isService, offers}
+use Rattle.rules.specs.declared.Ruled.{Ruled}
+use Rattle.rules.specs.declared.Party.{Party}
+use Rattle.rules.specs.declared.Link.{Link}
+use Rattle.rules.specs.declared.Monitor.{Monitor}
+
+-- ---- flags: 1 TPNOREPLY, 2 TPNOTRAN, 4 TPSENDONLY, 8 TPRECVONLY
+abbrev pub noReply : ℕ → Bool
+noReply b = eqb (b % 2) 1
+
+abbrev pub noTran : ℕ → Bool
+noTran b = eqb (b / 2 % 2) 1
+
+abbrev pub recvOnly : ℕ → Bool
+recvOnly b = eqb (b / 8 % 2) 1
+
+-- of a connect: 2, 4 and 8 alone, one of 4 and 8
+abbrev pub connectFlags : ℕ → Bool
+connectFlags b = leb b 15 && (eqb (b % 2) 0 && not (eqb (b / 4 % 2) (b / 8 % 2)))
+
+-- "The link is of T unless b has 2."
+unfoldable pub linkTx : Monitor → ℕ → ℕ → ℕ
+linkTx m p b = pick (noTran b) 0 (txOf m p)
+
+-- ---- 12, 13
+-- "A new link is waiting, its originator the caller, service a, originator end otherwise open, first token c,
+-- holder the server under flag 8 and else the originator; its other fields are 0 or empty."
+abbrev pub newLink : ℕ → ℕ → ℕ → ℕ → ℕ → ℕ → ℕ → ℕ → Link
+newLink n kind p attached a t c sender =
+    record {
+      number = n;
+      kind = kind;
+      originator = p;
+      attached = attached;
+      service = a;
+      tx = t;
+      state = 0;
+      server = 0;
+      first = c;
+      outcome = 0;
+      ending = 0;
+      sender = sender;
+      granting = 0;
+      disconnected = 0;
+      unread = replicate 4 0;
+      filled = 0;
+    }
+
+-- "Fewer than 32 links and a number left?"
+abbrev pub linkLeft : Monitor → Bool
+linkLeft m = ltb (m .count) 32 && ltb (m .lastlink) 60000
+
+-- the questions after the flags, for a link of the transaction t (0 none) to service a
+unfoldable pub askLink : Monitor → ℕ → ℕ → Ruled → Ruled
+askLink m t a rest =
+    ask m (not (ended m t)) notAllowedNow
+    (ask m (not (expired m t)) timedOut
+    (ask m (anyOf (offers a) (m .parties)) notOffered
+    (ask m (linkLeft m) noRoomLeft
+    rest)))
+
+-- 12 request a, flags b (1 no reply, 2 no transaction), token c: service and flags good, and no bare 1 in T? 22
+abbrev pub isBareNoReply : ℕ → Bool
+isBareNoReply b = eqb b 1
+
+unfoldable pub requestOf : Monitor → ℕ → ℕ → ℕ → ℕ → Ruled
+requestOf m p a b c =
+    ask m (isService a && (leb b 3 && not (isBareNoReply b && not (eqb (txOf m p) 0)))) badArgument
+    (askLink m (linkTx m p b) a
+    (valued
+    (added m (newLink (m .lastlink + 1) 0 p (pick (noReply b) 0 1) a (linkTx m p b) c 0))
+    (pick (noReply b) 0 (m .lastlink + 1))))
+
+-- 13 connect a, flags b (2, 4 I send, 8 I receive; one of 4 and 8), token c: service and flags good? 22
+unfoldable pub connectOf : Monitor → ℕ → ℕ → ℕ → ℕ → Ruled
+connectOf m p a b c =
+    ask m (isService a && connectFlags b) badArgument
+    (askLink m (linkTx m p b) a
+    (valued
+    (added m (newLink (m .lastlink + 1) 1 p 1 a (linkTx m p b) c (pick (recvOnly b) 1 0)))
+    (m .lastlink + 1)))
+
+-- ---- 14 take: the dispatch of a service
+-- "opened, not serving, no T, no open originator end?"
+unfoldable pub isIdle : Monitor → ℕ → Bool
+isIdle m p = isOpened (party m p) && (eqb (party m p .served) 0 && (eqb (txOf m p) 0 && not (anyOf (ownEnd p) (live m))))
+
+-- a waiting link of a service that the party offers
+unfoldable pub fits : Party → Link → Bool
+fits q l = isWaiting l && offers (l .service) q
+
+-- "event 64 request, 65 server receives, 66 server sends"
+unfoldable pub dispatchEvent : Link → ℕ
+dispatchEvent l = pick (isRequest l) 64 (pick (eqb (l .sender) 0) 65 66)
+
+abbrev pub working : Link → ℕ → Link
+working l p = record { number = l .number; kind = l .kind; originator = l .originator; attached = l .attached; service = l .service; tx = l .tx; state = 1; server = p; first = l .first; outcome = l .outcome; ending = l .ending; sender = l .sender; granting = l .granting; disconnected = l .disconnected; unread = l .unread; filled = l .filled }
+
+abbrev pub serving : Party → ℕ → Party
+serving q d = record { opened = q .opened; control = q .control; timeout = q .timeout; services = q .services; owned = q .owned; deadline = q .deadline; rollbackonly = q .rollbackonly; served = d }
+
+-- the link l at the place i becomes working for party p
+unfoldable pub dispatched : Monitor → ℕ → ℕ → Link → Ruled
+dispatched m p i l =
+    record {
+      monitor = replaced (withParty m p (serving (party m p) (l .number))) i (working l p);
+      code = accepted;
+      value = l .number;
+      event = dispatchEvent l;
+      token = l .first;
+      service = l .service;
+    }
+
+-- the place of the waiting link with the lowest number
+abbrev pub nextWaiting : Monitor → ℕ → ℕ
+nextWaiting m p = firstOf (fits (party m p)) (live m)
+
+unfoldable pub dispatchOf : Monitor → ℕ → Ruled
+dispatchOf m p =
+    ask m (isIdle m p) notAllowedNow
+    (ask m (ltb (nextWaiting m p) (m .count)) nothingWaiting
+    (dispatched m p (nextWaiting m p) (getD (live m) (nextWaiting m p) freshLink)))
+
+-- ---- 15 fetch, 16 cancel
+-- is this an open request end of party p's
+unfoldable pub requestEnd : ℕ → Link → Bool
+requestEnd p l = isRequest l && ownEnd p l
+
+-- "Outcome 8 gives 0, 4 gives 30, 2 gives 31"
+unfoldable pub outcomeCode : ℕ → ℤ
+outcomeCode o = pick (eqb o 8) accepted (pick (eqb o 4) tpeSvcFail tpeSvcErr)
+
+-- the reply of link a is taken, and the link goes
+unfoldable pub fetched : Monitor → ℕ → Link → Ruled
+fetched m a l = record { monitor = removed m a; code = outcomeCode (l .outcome); value = 0; event = 0; token = l .ending; service = 0 }
+
+-- 15 fetch a: an open request end of the caller's? 24. Not expired? 28. Returned? 32
+unfoldable pub fetchOf : Monitor → ℕ → ℕ → Ruled
+fetchOf m p a =
+    ask m (requestEnd p (linkOf m a)) noSuchEnd
+    (ask m (not (expired m (linkOf m a .tx))) timedOut
+    (ask m (isReturned (linkOf m a)) noReplyYet
+    (fetched m a (linkOf m a))))
+
+-- "The end closes; a returned link goes; the service runs on."
+unfoldable pub cancelled : Monitor → ℕ → Link → Monitor
+cancelled m a l = pick (isReturned l) (removed m a) (changed m a (closed l))
+
+-- 16 cancel a: as in 15, 24. Is its transaction 0? 27
+unfoldable pub cancelOf : Monitor → ℕ → ℕ → Ruled
+cancelOf m p a =
+    ask m (requestEnd p (linkOf m a)) noSuchEnd
+    (ask m (eqb (linkOf m a .tx) 0) inTransaction
+    (valued (cancelled m a (linkOf m a)) 0))
