@@ -1,0 +1,15 @@
+pub mod All
+pub mod Base
+pub mod Conversations
+pub mod Ending
+pub mod Leaving
+pub mod LinkChanges
+pub mod Moved
+pub mod Parted
+pub mod Parting
+pub mod Requests
+pub mod Return
+pub mod Says
+pub mod Services
+pub mod States
+pub mod Tx

@@ -1,0 +1,12 @@
+pub mod Changes
+pub mod Fine
+pub mod Logic
+pub mod Looks
+pub mod Parties
+pub mod Sound
+pub mod History
+pub mod ByKind
+pub mod Refusals
+pub mod Lent
+pub mod Kept
+pub mod Marked

@@ -1,0 +1,141 @@
+-- The drill cases that document 01 marks, in one table: each list of calls, run on a fresh monitor, ends as it says.
+-- One test is computed over the whole table, and one lemma turns it into the facts of each entry.
+-- Assumes nothing.
+use mathlib.Core.Path.{_≡_, refl, ap}
+use mathlib.Core.Bool.{Bool, true, _&&_}
+use mathlib.Core.List.{List, [], _∷_, _++_}
+use Prim.Native.Nat.{ℕ, zero, suc, _-_, _<_}
+use native.Mathlib.Nat.{le-of-suc-le-suc, not-suc-le-zero}
+use lib.Dec.{eqb}
+use lib.IntN.{ℤ, pos, negsuc}
+use lib.ListN.{length, getD, replicate}
+use borrow.Author.Tests.{eqb-true}
+use Rattle.rules.specs.Choice.{pick, same}
+use Rattle.rules.specs.Codes.{noBegin}
+use Rattle.rules.specs.Lists.{firstOf, anyOf, collect}
+use Rattle.rules.specs.Record.{freshMonitor, blanks, numbered, owns, ownEnd, linkOf, changed, goneOf, removed}
+use Rattle.rules.specs.Transaction.{servedTx, txOf, ended, expired, isOwner, deadlineOf, beginTx, orphaned, endOf, endTx, isOpenOf, canCommit}
+use Rattle.rules.specs.States.{stateOf, nextOf, inState, entered}
+use Rattle.rules.specs.Tx.{openOf, closeOf, beginOf, goOn, commitCode, commitOf, timeoutOf}
+use Rattle.rules.specs.Services.{inSet, offers, countTo, offered, withService, offersNow, advertiseOf}
+use Rattle.rules.specs.Requests.{linkTx, askLink, requestOf, connectOf, requestEnd, cancelOf}
+use Rattle.rules.specs.Conversations.{originatorEnd, serverEnd, anyEnd, hearsCut, hearsReturn, endSide, holds, sendOn, sendOf}
+use Rattle.rules.specs.Sound.{linksGood, worksFor, partyGood, partiesGood, sound}
+use Rattle.rules.specs.Step.{ruleOf, laterOf, told, turnedDown, callOf}
+use Rattle.rules.specs.Run.{callAt, placesOf, ranOf, answersOf, Listed, listOf}
+use Rattle.rules.specs.History.{sameCode}
+use Rattle.rules.proofs.Logic.{and-l, and-r}
+
+-- Calls as numbers, six to each; the code of the last one's answer; the record's clock afterwards.
+pub record Example : Type 0 where
+  pub calls : List ℕ
+  pub code : ℤ
+  pub clock : ℕ
+
+-- a call of party 0's: clock, kind, a, b, c
+abbrev pub call : ℕ → ℕ → ℕ → ℕ → ℕ → List ℕ
+call clock kind a b c = clock ∷ 0 ∷ kind ∷ a ∷ b ∷ c ∷ []
+
+abbrev pub opens : List ℕ
+opens = call 0 1 0 0 0
+
+abbrev pub advertises : ℕ → List ℕ
+advertises a = call 0 10 a 0 0
+
+abbrev pub sends : List ℕ
+sends = call 0 17 1 0 7
+
+-- timeout 10, begin at 5, commit
+abbrev pub commitsAt : ℕ → List ℕ
+commitsAt clock = opens ++ call 0 9 10 0 0 ++ call 5 3 0 0 0 ++ call clock 4 0 0 0
+
+-- "Fresh begin −5"
+abbrev pub freshBegin : Example
+freshBegin = record { calls = call 0 3 0 0 0; code = negsuc 4; clock = 0 }
+
+-- "fresh close 0"
+abbrev pub freshClose : Example
+freshClose = record { calls = call 0 2 0 0 0; code = pos 0; clock = 0 }
+
+-- "Timeout 2147483648: −8", of an opened party
+abbrev pub timeoutTooLong : Example
+timeoutTooLong = record { calls = opens ++ call 0 9 2147483648 0 0; code = negsuc 7; clock = 0 }
+
+-- "Timeout 10, begin at 5: commit at 14 is 0, at 15 is −2."
+abbrev pub commitInTime : Example
+commitInTime = record { calls = commitsAt 14; code = pos 0; clock = 14 }
+
+abbrev pub commitTooLate : Example
+commitTooLate = record { calls = commitsAt 15; code = negsuc 1; clock = 15 }
+
+-- "Clock 20 then 3 stays 20."
+abbrev pub clockStays : Example
+clockStays = record { calls = call 20 1 0 0 0 ++ call 3 1 0 0 0; code = pos 0; clock = 20 }
+
+-- "Cancel in T: 27."
+abbrev pub cancelInTx : Example
+cancelInTx = record { calls = opens ++ advertises 1 ++ call 0 3 0 0 0 ++ call 0 12 1 0 7 ++ call 0 16 1 0 0; code = pos 27; clock = 0 }
+
+-- "Fifth unread: 32."
+abbrev pub fifthUnread : Example
+fifthUnread = record { calls = advertises 1 ++ call 0 13 1 4 0 ++ sends ++ sends ++ sends ++ sends ++ sends; code = pos 32; clock = 0 }
+
+-- "Ninth service: 26."
+abbrev pub ninthService : Example
+ninthService = record {
+  calls = advertises 1 ++ advertises 2 ++ advertises 3 ++ advertises 4 ++ advertises 5 ++ advertises 6 ++ advertises 7 ++ advertises 8 ++ advertises 9;
+  code = pos 26;
+  clock = 0;
+}
+
+abbrev pub marked : List Example
+marked = freshBegin ∷ freshClose ∷ timeoutTooLong ∷ commitInTime ∷ commitTooLate ∷ clockStays ∷ cancelInTx ∷ fifthUnread ∷ ninthService ∷ []
+
+-- the calls as a lent list on a fresh monitor, with as much room as they need
+abbrev pub drilled : Example → Listed
+drilled e = listOf freshMonitor (e .calls) (replicate (length (e .calls)) (pos 0))
+
+-- the code of the last answer
+abbrev pub lastCode : Example → ℤ
+lastCode e = getD (drilled e .places) (length (e .calls) - 6) (pos 0)
+
+-- What holds of an example.
+pub record Holds (e : Example) : Type 0 where
+  pub runs : drilled e .code ≡ pos 0
+  pub answers : lastCode e ≡ e .code
+  pub leaves : drilled e .monitor .clock ≡ e .clock
+
+-- ---- the test
+right : Example → Bool
+right e = sameCode (drilled e .code) (pos 0) && (sameCode (lastCode e) (e .code) && eqb (drilled e .monitor .clock) (e .clock))
+
+every : List Example → Bool
+every [] = true
+every (e ∷ es) = right e && every es
+
+-- ---- what it shows
+same-code : (x y : ℤ) → sameCode x y ≡ true → x ≡ y
+same-code (pos m) (pos n) h = ap pos (eqb-true m n h)
+same-code (pos m) (negsuc n) h = cc
+same-code (negsuc m) (pos n) h = cc
+same-code (negsuc m) (negsuc n) h = ap negsuc (eqb-true m n h)
+
+holds-right : (e : Example) → right e ≡ true → Holds e
+unfolding right
+holds-right e h =
+    let later = and-r (sameCode (drilled e .code) (pos 0)) _ h in
+    record {
+      runs = same-code _ _ (and-l _ _ h);
+      answers = same-code _ _ (and-l _ _ later);
+      leaves = eqb-true _ _ (and-r (sameCode (lastCode e) (e .code)) _ later);
+    }
+
+table-holds : (es : List Example) → every es ≡ true → (k : ℕ) → k < length es → Holds (getD es k freshBegin)
+unfolding every
+table-holds [] t k h = absurd (not-suc-le-zero h)
+table-holds (e ∷ es) t zero h = holds-right e (and-l _ _ t)
+table-holds (e ∷ es) t (suc k) h = table-holds es (and-r (right e) _ t) k (le-of-suc-le-suc h)
+
+pub marked-holds : (k : ℕ) → k < length marked → Holds (getD marked k freshBegin)
+unfolding every right pick same noBegin firstOf anyOf collect blanks numbered owns ownEnd linkOf changed goneOf removed servedTx txOf ended expired isOwner deadlineOf beginTx orphaned endOf endTx isOpenOf canCommit stateOf nextOf inState entered openOf closeOf beginOf goOn commitCode commitOf timeoutOf inSet offers countTo offered withService offersNow advertiseOf linkTx askLink requestOf connectOf requestEnd cancelOf originatorEnd serverEnd anyEnd hearsCut hearsReturn endSide holds sendOn sendOf linksGood worksFor partyGood partiesGood sound ruleOf laterOf told turnedDown callOf callAt placesOf ranOf answersOf listOf
+marked-holds = table-holds marked refl

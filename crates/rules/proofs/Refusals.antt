@@ -1,0 +1,274 @@
+-- A refused call changes nothing but the clock and tells nothing but its number: of every record, sound or not.
+-- Assumes nothing.
+use mathlib.Core.Path.{_≡_, refl, sym, ap, _∙_}
+use mathlib.Core.Bool.{Bool, true, false, not, _&&_, _||_}
+use Prim.Native.Nat.{ℕ}
+use lib.Dec.{eqb}
+use lib.IntN.{ℤ, pos, negsuc}
+use borrow.Author.Tests.{eqb-true}
+use Rattle.rules.specs.Choice.{pick}
+use Rattle.rules.specs.Codes.{noBegin}
+use Rattle.rules.specs.Record.{linkOf, ruled}
+use Rattle.rules.specs.Transaction.{servedTx, txOf}
+use Rattle.rules.specs.Tx.{openOf, closeOf, beginOf, goOn, commitCode, commitOf, rollbackOf, infoOf, commitReturnOf, controlOf, timeoutOf}
+use Rattle.rules.specs.Services.{offersNow, advertiseOf, unadvertiseOf}
+use Rattle.rules.specs.Requests.{askLink, requestOf, connectOf, dispatched, dispatchOf, outcomeCode, fetched, fetchOf, cancelOf}
+use Rattle.rules.specs.Conversations.{tellsCut, tellsReturn, sendOn, sendOf, received, receiveOn, receiveOf, disconnectOf}
+use Rattle.rules.specs.Return.{returnWith, returnOf, terminateOf}
+use Rattle.rules.specs.Step.{ruleOf, isKind, advanced, told, turnedDown, callOf, stepOf}
+use Rattle.rules.specs.Refusals.{isRefusal, isEarly, isOutcome, Refused}
+use Rattle.rules.specs.declared.Call.{Call}
+use Rattle.rules.specs.declared.Monitor.{Monitor}
+use Rattle.rules.specs.declared.Ruled.{Ruled}
+use Rattle.rules.specs.declared.Stepped.{Stepped}
+use Rattle.rules.proofs.Logic.{byTest, not-both, pick-true, pick-false, test, and-l, and-r, not-true, or-true, or-cases}
+use Rattle.rules.proofs.ByKind.{OfEachKind, by-kind}
+
+-- a rule of the record m is carried out, or refuses: with a number past question 21, zeros, and the record m
+data Decided (m : Monitor) (r : Ruled) : Type 0 where
+  does : isOutcome (r .code) && not (isRefusal (r .code)) ≡ true → Decided m r
+  refuses : isRefusal (r .code) && not (isEarly (r .code)) ≡ true → r ≡ ruled m (r .code) → Decided m r
+
+-- ---- questions and other choices
+asks : {m : Monitor} {b : Bool} {x y : Ruled} → (b ≡ true → Decided m x) → (b ≡ false → Decided m y) → Decided m (pick b x y)
+asks f g = byTest (Decided _) f g
+
+no : {m : Monitor} (code : ℤ) → isRefusal code && not (isEarly code) ≡ true → Decided m (ruled m code)
+no code h = refuses h refl
+
+-- ---- the kinds
+-- the codes of a commit that was carried out, with and without a new transaction
+commit-carried : (b : Bool) → isOutcome (commitCode b) && not (isRefusal (commitCode b)) ≡ true
+unfolding isOutcome isRefusal commitCode
+commit-carried b = byTest (λ z. isOutcome z && not (isRefusal z) ≡ true) (λ _. refl) (λ _. refl)
+
+no-begin-carried : (b : Bool) → isOutcome (noBegin (commitCode b)) && not (isRefusal (noBegin (commitCode b))) ≡ true
+unfolding isOutcome isRefusal commitCode noBegin
+no-begin-carried b = byTest (λ z. isOutcome (noBegin z) && not (isRefusal (noBegin z)) ≡ true) (λ _. refl) (λ _. refl)
+
+reply-carried : (o : ℕ) → isOutcome (outcomeCode o) && not (isRefusal (outcomeCode o)) ≡ true
+unfolding isOutcome isRefusal outcomeCode
+reply-carried o = byTest (λ z. isOutcome z && not (isRefusal z) ≡ true) (λ _. refl)
+    (λ _. byTest (λ z. isOutcome z && not (isRefusal z) ≡ true) (λ _. refl) (λ _. refl))
+
+go-on : (m m₀ : Monitor) (p next : ℕ) (b : Bool) → Decided m (goOn m₀ p next (commitCode b))
+unfolding goOn
+go-on m m₀ p next b = asks (λ _. asks (λ _. does (commit-carried b)) (λ _. does (no-begin-carried b))) (λ _. does (commit-carried b))
+
+roll-on : (m m₀ : Monitor) (p next : ℕ) → Decided m (goOn m₀ p next (pos 0))
+unfolding commitCode pick
+roll-on m m₀ p next = go-on m m₀ p next true
+
+module _ (m : Monitor) (p : ℕ) where
+  open-decided : Decided m (openOf m p)
+  unfolding openOf isOutcome isRefusal isEarly
+  open-decided = asks (λ _. does refl) (λ _. no (negsuc 4) refl)
+
+  close-decided : Decided m (closeOf m p)
+  unfolding closeOf isOutcome isRefusal isEarly
+  close-decided = asks (λ _. does refl) (λ _. no (negsuc 4) refl)
+
+  begin-decided : Decided m (beginOf m p)
+  unfolding beginOf isOutcome isRefusal isEarly
+  begin-decided = asks (λ _. asks (λ _. does refl) (λ _. no (negsuc 5) refl)) (λ _. no (negsuc 4) refl)
+
+  commit-decided : Decided m (commitOf m p)
+  unfolding commitOf isOutcome isRefusal isEarly
+  commit-decided = asks (λ _. asks (λ _. go-on m _ p _ _) (λ _. no (negsuc 4) refl)) (λ _. no (negsuc 4) refl)
+
+  rollback-decided : Decided m (rollbackOf m p)
+  unfolding rollbackOf isOutcome isRefusal isEarly
+  rollback-decided = asks (λ _. asks (λ _. roll-on m _ p _) (λ _. no (negsuc 4) refl)) (λ _. no (negsuc 4) refl)
+
+  info-decided : Decided m (infoOf m p)
+  unfolding infoOf isOutcome isRefusal isEarly
+  info-decided = asks (λ _. asks (λ _. does refl) (λ _. does refl)) (λ _. no (negsuc 4) refl)
+
+  offers-decided : (s : ℕ) → Decided m (offersNow m p s)
+  unfolding offersNow isOutcome isRefusal
+  offers-decided s = does refl
+
+  dispatch-decided : Decided m (dispatchOf m p)
+  unfolding dispatchOf dispatched isOutcome isRefusal isEarly
+  dispatch-decided = asks (λ _. asks (λ _. does refl) (λ _. no (pos 32) refl)) (λ _. no (pos 23) refl)
+
+  terminate-decided : Decided m (terminateOf m p)
+  unfolding terminateOf isOutcome isRefusal
+  terminate-decided = does refl
+
+  module _ (a : ℕ) where
+    commit-return-decided : Decided m (commitReturnOf m p a)
+    unfolding commitReturnOf isOutcome isRefusal isEarly
+    commit-return-decided = asks (λ _. asks (λ _. asks (λ _. does refl) (λ _. does refl)) (λ _. no (negsuc 7) refl)) (λ _. no (negsuc 4) refl)
+
+    control-decided : Decided m (controlOf m p a)
+    unfolding controlOf isOutcome isRefusal isEarly
+    control-decided = asks (λ _. asks (λ _. does refl) (λ _. no (negsuc 7) refl)) (λ _. no (negsuc 4) refl)
+
+    timeout-decided : Decided m (timeoutOf m p a)
+    unfolding timeoutOf isOutcome isRefusal isEarly
+    timeout-decided = asks (λ _. asks (λ _. does refl) (λ _. no (negsuc 7) refl)) (λ _. no (negsuc 4) refl)
+
+    advertise-decided : Decided m (advertiseOf m p a)
+    unfolding advertiseOf isOutcome isRefusal isEarly
+    advertise-decided = asks (λ _. asks (λ _. offers-decided _) (λ _. no (pos 26) refl)) (λ _. no (pos 22) refl)
+
+    unadvertise-decided : Decided m (unadvertiseOf m p a)
+    unfolding unadvertiseOf isOutcome isRefusal isEarly
+    unadvertise-decided = asks (λ _. asks (λ _. offers-decided _) (λ _. no (pos 25) refl)) (λ _. no (pos 22) refl)
+
+    link-decided : (t : ℕ) {rest : Ruled} → Decided m rest → Decided m (askLink m t a rest)
+    unfolding askLink isRefusal isEarly
+    link-decided t d =
+        asks (λ _. asks (λ _. asks (λ _. asks (λ _. d)
+        (λ _. no (pos 26) refl)) (λ _. no (pos 25) refl)) (λ _. no (pos 28) refl)) (λ _. no (pos 23) refl)
+
+    fetch-decided : Decided m (fetchOf m p a)
+    unfolding fetchOf fetched isOutcome isRefusal isEarly
+    fetch-decided =
+        asks (λ _. asks (λ _. asks (λ _. does (reply-carried _))
+        (λ _. no (pos 32) refl)) (λ _. no (pos 28) refl)) (λ _. no (pos 24) refl)
+
+    cancel-decided : Decided m (cancelOf m p a)
+    unfolding cancelOf isOutcome isRefusal isEarly
+    cancel-decided = asks (λ _. asks (λ _. does refl) (λ _. no (pos 27) refl)) (λ _. no (pos 24) refl)
+
+    receive-decided : Decided m (receiveOf m p a)
+    unfolding receiveOf receiveOn received tellsCut tellsReturn isOutcome isRefusal isEarly
+    receive-decided =
+        asks (λ _. asks (λ _. asks (λ _. does refl) (λ _. asks (λ _. does refl)
+        (λ _. asks (λ _. asks (λ _. asks (λ _. does refl) (λ _. does refl))
+        (λ _. no (pos 32) refl)) (λ _. no (pos 23) refl)))) (λ _. no (pos 28) refl)) (λ _. no (pos 24) refl)
+
+    disconnect-decided : Decided m (disconnectOf m p a)
+    unfolding disconnectOf isOutcome isRefusal isEarly
+    disconnect-decided = asks (λ _. does refl) (λ _. no (pos 24) refl)
+
+    return-decided : (c : ℕ) → Decided m (returnOf m p a c)
+    unfolding returnOf returnWith isOutcome isRefusal isEarly
+    return-decided c = asks (λ _. asks (λ _. does refl) (λ _. no (pos 22) refl)) (λ _. no (pos 23) refl)
+
+    module _ (b c : ℕ) where
+      request-decided : Decided m (requestOf m p a b c)
+      unfolding requestOf isOutcome isRefusal isEarly
+      request-decided = asks (λ _. link-decided _ (does refl)) (λ _. no (pos 22) refl)
+
+      connect-decided : Decided m (connectOf m p a b c)
+      unfolding connectOf isOutcome isRefusal isEarly
+      connect-decided = asks (λ _. link-decided _ (does refl)) (λ _. no (pos 22) refl)
+
+      send-decided : Decided m (sendOf m p a b c)
+      unfolding sendOf sendOn tellsCut tellsReturn isOutcome isRefusal isEarly
+      send-decided =
+          asks (λ _. asks (λ _. asks (λ _. asks (λ _. does refl) (λ _. asks (λ _. does refl)
+          (λ _. asks (λ _. asks (λ _. does refl)
+          (λ _. no (pos 32) refl)) (λ _. no (pos 23) refl)))) (λ _. no (pos 28) refl)) (λ _. no (pos 22) refl)) (λ _. no (pos 24) refl)
+
+      each-decided : (k : ℕ) → OfEachKind (Decided m) m p k a b c
+      each-decided k = record {
+        onOpen = λ _. open-decided;
+        onClose = λ _. close-decided;
+        onBegin = λ _. begin-decided;
+        onCommit = λ _. commit-decided;
+        onRollback = λ _. rollback-decided;
+        onInfo = λ _. info-decided;
+        onCommitReturn = λ _. commit-return-decided;
+        onControl = λ _. control-decided;
+        onTimeout = λ _. timeout-decided;
+        onAdvertise = λ _. advertise-decided;
+        onUnadvertise = λ _. unadvertise-decided;
+        onRequest = λ _. request-decided;
+        onConnect = λ _. connect-decided;
+        onDispatch = λ _. dispatch-decided;
+        onFetch = λ _. fetch-decided;
+        onCancel = λ _. cancel-decided;
+        onSend = λ _. send-decided;
+        onReceive = λ _. receive-decided;
+        onDisconnect = λ _. disconnect-decided;
+        onReturn = λ _. return-decided c;
+        onTerminate = λ _. terminate-decided;
+      }
+
+-- ---- past question 21
+early-refuses : (code : ℤ) → isEarly code ≡ true → isRefusal code ≡ true
+unfolding isEarly isRefusal
+early-refuses (pos n) e =
+    or-cases (eqb 19 n) _ e (λ x. rw (← eqb-true 19 n x))
+    (λ f. or-cases (eqb 20 n) _ f (λ x. rw (← eqb-true 20 n x)) (λ x. rw (← eqb-true 21 n x)))
+early-refuses (negsuc n) e = not-both e refl
+
+decided-past : {m : Monitor} {r : Ruled} → Decided m r → isEarly (r .code) ≡ false
+decided-past {m} {r} (does f) = test (isEarly (r .code)) (λ e. not-both (early-refuses (r .code) e) (not-true _ (and-r (isOutcome (r .code)) _ f))) (λ n. n)
+decided-past {m} {r} (refuses f e) = not-true _ (and-r (isRefusal (r .code)) _ f)
+
+rule-decided : (m : Monitor) (p k a b c : ℕ) → isKind k ≡ true → Decided m (ruleOf m p k a b c)
+rule-decided m p k a b c h = by-kind (Decided m) m p k a b c h (each-decided m p a b c k)
+
+-- no kind's rule answers 19, 20 or 21
+pub rule-past : (m : Monitor) (p k a b c : ℕ) → isKind k ≡ true → isEarly (ruleOf m p k a b c .code) ≡ false
+rule-past m p k a b c h = decided-past (rule-decided m p k a b c h)
+
+-- ---- a call
+-- what each call gives: its code is a refusal's or that of a call that was carried out, and a refusal is one
+record Lawful (m : Monitor) (c : Call) (s : Stepped) : Type 0 where
+  known : isRefusal (s .answer .code) || isOutcome (s .answer .code) ≡ true
+  refused : isRefusal (s .answer .code) ≡ true → Refused m c s
+
+told-lawful : (m : Monitor) (c : Call) (r : Ruled) → Decided (advanced m (c .clock)) r → Lawful m c (told r (c .party))
+unfolding told txOf servedTx linkOf
+told-lawful m c r (does f) = record {
+  known = rw (and-l (isOutcome (r .code)) _ f, or-true);
+  refused = λ y. not-both y (not-true _ (and-r (isOutcome (r .code)) _ f));
+}
+told-lawful m c r (refuses f e) = record {
+  known = rw (and-l (isRefusal (r .code)) _ f);
+  refused = λ _. record {
+    value = ap (λ (x : Ruled). x .value) e;
+    event = ap (λ (x : Ruled). x .event) e;
+    token = ap (λ (x : Ruled). x .token) e;
+    service = ap (λ (x : Ruled). x .service) e;
+    tx = ap (λ (x : Ruled). txOf (x .monitor) (c .party)) e ∙ sym (pick-false _ 0 (txOf m (c .party)) past);
+    monitor = ap (λ (x : Ruled). x .monitor) e ∙ sym (pick-false _ m (advanced m (c .clock)) past);
+  };
+}
+  where
+    past : isEarly (r .code) ≡ false
+    past = decided-past (refuses f e)
+
+turned-down-lawful : (m : Monitor) (c : Call) (code : ℤ) → isRefusal code ≡ true → isEarly code ≡ true → Lawful m c (turnedDown m code)
+unfolding turnedDown
+turned-down-lawful m c code y e = record {
+  known = rw y;
+  refused = λ _. record {
+    value = refl;
+    event = refl;
+    token = refl;
+    service = refl;
+    tx = sym (pick-true _ 0 (txOf m (c .party)) e);
+    monitor = sym (pick-true _ m (advanced m (c .clock)) e);
+  };
+}
+
+call-lawful : (m : Monitor) (c : Call) → Lawful m c (callOf m c)
+unfolding callOf isRefusal isEarly
+call-lawful m c = byTest (Lawful m c)
+    (λ k. byTest (Lawful m c)
+    (λ _. told-lawful m c _ (rule-decided (advanced m (c .clock)) (c .party) (c .kind) (c .a) (c .b) (c .c) k))
+    (λ _. turned-down-lawful m c (pos 21) refl refl))
+    (λ _. turned-down-lawful m c (pos 20) refl refl)
+
+step-lawful : (m : Monitor) (c : Call) → Lawful m c (stepOf m c)
+unfolding stepOf isRefusal isEarly
+step-lawful m c = byTest (Lawful m c) (λ _. call-lawful m c) (λ _. turned-down-lawful m c (pos 19) refl refl)
+
+-- every refusal, of every record, is what document 01 says of one
+pub refusal-law : (m : Monitor) (c : Call) → isRefusal (stepOf m c .answer .code) ≡ true → Refused m c (stepOf m c)
+refusal-law m c = step-lawful m c .refused
+
+-- the same of a call inside a list
+pub call-refusal-law : (m : Monitor) (c : Call) → isRefusal (callOf m c .answer .code) ≡ true → Refused m c (callOf m c)
+call-refusal-law m c = call-lawful m c .refused
+
+-- there is no other code than a refusal's and those of calls that were carried out
+pub code-known : (m : Monitor) (c : Call) → isRefusal (stepOf m c .answer .code) || isOutcome (stepOf m c .answer .code) ≡ true
+code-known m c = step-lawful m c .known
