@@ -1,0 +1,186 @@
+-- Requests and their services: histories whose answers the outside implementation made, and the same ones spoilt in one place.
+-- Assumes nothing.
+use mathlib.Core.List.{List, [], _∷_}
+use lib.IntN.{pos, negsuc}
+use Rattle.histories.proofs.Rows.{Row, row, coded, told, asked, without, valueField, bField, commit, alone, Spoilt, breaks, txOpen, txBegin, txCommit, txRollback, tpadvertise, tpacall, dispatch, tpgetrply, tpcancel, tpreturn, terminate}
+
+-- a service calls another in the same transaction, and all end well; the servers commits are refused
+abbrev pub nested : List Row
+nested =
+    row 1 0 txOpen 0 0 0 (pos 0) 0 0 0 0 0
+    ∷ row 1 1 txOpen 0 0 0 (pos 0) 0 0 0 0 0
+    ∷ row 1 1 tpadvertise 7 0 0 (pos 0) 1 0 0 0 0
+    ∷ row 1 2 txOpen 0 0 0 (pos 0) 0 0 0 0 0
+    ∷ row 1 2 tpadvertise 8 0 0 (pos 0) 1 0 0 0 0
+    ∷ row 2 0 txBegin 0 0 0 (pos 0) 0 0 0 0 1
+    ∷ row 2 0 tpacall 7 0 70 (pos 0) 1 0 0 0 1
+    ∷ row 3 1 dispatch 0 0 0 (pos 0) 1 64 70 7 1
+    ∷ row 3 1 txCommit 0 0 0 (negsuc 4) 0 0 0 0 1
+    ∷ row 3 1 tpacall 8 0 80 (pos 0) 2 0 0 0 1
+    ∷ row 4 2 dispatch 0 0 0 (pos 0) 2 64 80 8 1
+    ∷ row 4 2 txRollback 0 0 0 (negsuc 4) 0 0 0 0 1
+    ∷ row 5 2 tpreturn 1 0 81 (pos 0) 8 0 0 0 0
+    ∷ row 6 1 tpgetrply 2 0 0 (pos 0) 0 0 81 0 1
+    ∷ row 7 1 tpreturn 1 0 71 (pos 0) 8 0 0 0 0
+    ∷ row 8 0 tpgetrply 1 0 0 (pos 0) 0 0 71 0 1
+    ∷ row 9 0 txCommit 0 0 0 (pos 0) 0 0 0 0 0
+    ∷ []
+
+-- a service fails, and the next transaction is not touched by it
+abbrev pub failing : List Row
+failing =
+    row 1 0 txOpen 0 0 0 (pos 0) 0 0 0 0 0
+    ∷ row 1 1 txOpen 0 0 0 (pos 0) 0 0 0 0 0
+    ∷ row 1 1 tpadvertise 7 0 0 (pos 0) 1 0 0 0 0
+    ∷ row 2 0 txBegin 0 0 0 (pos 0) 0 0 0 0 1
+    ∷ row 2 0 tpacall 7 0 0 (pos 0) 1 0 0 0 1
+    ∷ row 3 1 dispatch 0 0 0 (pos 0) 1 64 0 7 1
+    ∷ row 3 1 tpreturn 2 0 9 (pos 0) 4 0 0 0 0
+    ∷ row 4 0 tpgetrply 1 0 0 (pos 30) 0 0 9 0 1
+    ∷ row 4 0 txCommit 0 0 0 (negsuc 1) 0 0 0 0 0
+    ∷ row 5 0 txBegin 0 0 0 (pos 0) 0 0 0 0 2
+    ∷ row 5 0 tpacall 7 0 0 (pos 0) 2 0 0 0 2
+    ∷ row 6 1 dispatch 0 0 0 (pos 0) 2 64 0 7 2
+    ∷ row 6 1 tpreturn 1 0 0 (pos 0) 8 0 0 0 0
+    ∷ row 7 0 tpgetrply 2 0 0 (pos 0) 0 0 0 0 2
+    ∷ row 7 0 txCommit 0 0 0 (pos 0) 0 0 0 0 0
+    ∷ []
+
+-- a service returns success with a request of its own open: outcome 2
+abbrev pub negligent : List Row
+negligent =
+    row 1 0 txOpen 0 0 0 (pos 0) 0 0 0 0 0
+    ∷ row 1 1 txOpen 0 0 0 (pos 0) 0 0 0 0 0
+    ∷ row 1 1 tpadvertise 7 0 0 (pos 0) 1 0 0 0 0
+    ∷ row 1 2 txOpen 0 0 0 (pos 0) 0 0 0 0 0
+    ∷ row 1 2 tpadvertise 8 0 0 (pos 0) 1 0 0 0 0
+    ∷ row 2 0 txBegin 0 0 0 (pos 0) 0 0 0 0 1
+    ∷ row 2 0 tpacall 7 0 0 (pos 0) 1 0 0 0 1
+    ∷ row 3 1 dispatch 0 0 0 (pos 0) 1 64 0 7 1
+    ∷ row 3 1 tpacall 8 0 0 (pos 0) 2 0 0 0 1
+    ∷ row 4 1 tpreturn 1 0 71 (pos 0) 2 0 0 0 0
+    ∷ row 5 0 tpgetrply 1 0 0 (pos 31) 0 0 0 0 1
+    ∷ row 6 2 dispatch 0 0 0 (pos 0) 2 64 0 8 1
+    ∷ row 6 2 tpreturn 1 0 0 (pos 0) 8 0 0 0 0
+    ∷ row 7 0 txCommit 0 0 0 (negsuc 1) 0 0 0 0 0
+    ∷ []
+
+-- a server falls; the owner falls in its next transaction, and begins anew
+abbrev pub falling : List Row
+falling =
+    row 1 0 txOpen 0 0 0 (pos 0) 0 0 0 0 0
+    ∷ row 1 1 txOpen 0 0 0 (pos 0) 0 0 0 0 0
+    ∷ row 1 1 tpadvertise 7 0 0 (pos 0) 1 0 0 0 0
+    ∷ row 2 0 txBegin 0 0 0 (pos 0) 0 0 0 0 1
+    ∷ row 2 0 tpacall 7 0 0 (pos 0) 1 0 0 0 1
+    ∷ row 3 1 dispatch 0 0 0 (pos 0) 1 64 0 7 1
+    ∷ row 3 1 terminate 0 0 0 (pos 0) 2 0 0 0 0
+    ∷ row 4 0 tpgetrply 1 0 0 (pos 31) 0 0 0 0 1
+    ∷ row 4 0 txCommit 0 0 0 (negsuc 1) 0 0 0 0 0
+    ∷ row 5 1 txOpen 0 0 0 (pos 0) 0 0 0 0 0
+    ∷ row 5 1 tpadvertise 7 0 0 (pos 0) 1 0 0 0 0
+    ∷ row 5 0 txBegin 0 0 0 (pos 0) 0 0 0 0 2
+    ∷ row 5 0 tpacall 7 0 0 (pos 0) 2 0 0 0 2
+    ∷ row 6 1 dispatch 0 0 0 (pos 0) 2 64 0 7 2
+    ∷ row 6 0 terminate 0 0 0 (pos 0) 0 0 0 0 0
+    ∷ row 7 0 txOpen 0 0 0 (pos 0) 0 0 0 0 0
+    ∷ row 7 0 txBegin 0 0 0 (pos 0) 0 0 0 0 3
+    ∷ row 7 1 tpreturn 1 0 0 (pos 0) 8 0 0 0 0
+    ∷ row 8 0 txCommit 0 0 0 (pos 0) 0 0 0 0 0
+    ∷ []
+
+-- a commit with a request that waits, one with a reply not fetched, and one after the fetch
+abbrev pub unfinished : List Row
+unfinished =
+    row 1 0 txOpen 0 0 0 (pos 0) 0 0 0 0 0
+    ∷ row 1 1 txOpen 0 0 0 (pos 0) 0 0 0 0 0
+    ∷ row 1 1 tpadvertise 7 0 0 (pos 0) 1 0 0 0 0
+    ∷ row 2 0 txBegin 0 0 0 (pos 0) 0 0 0 0 1
+    ∷ row 2 0 tpacall 7 0 0 (pos 0) 1 0 0 0 1
+    ∷ row 3 0 txCommit 0 0 0 (negsuc 1) 0 0 0 0 0
+    ∷ row 4 0 txBegin 0 0 0 (pos 0) 0 0 0 0 2
+    ∷ row 4 0 tpacall 7 0 0 (pos 0) 2 0 0 0 2
+    ∷ row 5 1 dispatch 0 0 0 (pos 0) 2 64 0 7 2
+    ∷ row 5 1 tpreturn 1 0 0 (pos 0) 8 0 0 0 0
+    ∷ row 6 0 txCommit 0 0 0 (negsuc 1) 0 0 0 0 0
+    ∷ row 7 0 txBegin 0 0 0 (pos 0) 0 0 0 0 3
+    ∷ row 7 0 tpacall 7 0 0 (pos 0) 3 0 0 0 3
+    ∷ row 8 1 dispatch 0 0 0 (pos 0) 3 64 0 7 3
+    ∷ row 8 1 tpreturn 1 0 0 (pos 0) 8 0 0 0 0
+    ∷ row 9 0 tpgetrply 3 0 0 (pos 0) 0 0 0 0 3
+    ∷ row 9 0 txCommit 0 0 0 (pos 0) 0 0 0 0 0
+    ∷ []
+
+-- requests outside the transaction: without reply, cancelled, failed, and still open; in it a cancel is refused
+abbrev pub outside : List Row
+outside =
+    row 1 0 txOpen 0 0 0 (pos 0) 0 0 0 0 0
+    ∷ row 1 1 txOpen 0 0 0 (pos 0) 0 0 0 0 0
+    ∷ row 1 1 tpadvertise 7 0 0 (pos 0) 1 0 0 0 0
+    ∷ row 2 0 tpacall 7 1 1 (pos 0) 0 0 0 0 0
+    ∷ row 2 0 txBegin 0 0 0 (pos 0) 0 0 0 0 1
+    ∷ row 2 0 tpacall 7 1 2 (pos 22) 0 0 0 0 1
+    ∷ row 2 0 tpacall 7 3 3 (pos 0) 0 0 0 0 1
+    ∷ row 3 1 dispatch 0 0 0 (pos 0) 1 64 1 7 0
+    ∷ row 3 1 tpreturn 2 0 0 (pos 0) 4 0 0 0 0
+    ∷ row 3 1 dispatch 0 0 0 (pos 0) 2 64 3 7 0
+    ∷ row 3 1 terminate 0 0 0 (pos 0) 2 0 0 0 0
+    ∷ row 4 1 txOpen 0 0 0 (pos 0) 0 0 0 0 0
+    ∷ row 4 1 tpadvertise 7 0 0 (pos 0) 1 0 0 0 0
+    ∷ row 4 0 tpacall 7 2 4 (pos 0) 3 0 0 0 1
+    ∷ row 4 0 tpcancel 3 0 0 (pos 0) 0 0 0 0 1
+    ∷ row 5 0 tpacall 7 2 5 (pos 0) 4 0 0 0 1
+    ∷ row 5 0 tpacall 7 0 6 (pos 0) 5 0 0 0 1
+    ∷ row 5 0 tpcancel 5 0 0 (pos 27) 0 0 0 0 1
+    ∷ row 6 1 dispatch 0 0 0 (pos 0) 3 64 4 7 0
+    ∷ row 6 1 tpreturn 1 0 0 (pos 0) 8 0 0 0 0
+    ∷ row 6 1 dispatch 0 0 0 (pos 0) 4 64 5 7 0
+    ∷ row 6 1 tpreturn 2 0 0 (pos 0) 4 0 0 0 0
+    ∷ row 6 1 dispatch 0 0 0 (pos 0) 5 64 6 7 1
+    ∷ row 6 1 tpreturn 1 0 0 (pos 0) 8 0 0 0 0
+    ∷ row 7 0 tpgetrply 5 0 0 (pos 0) 0 0 0 0 1
+    ∷ row 8 0 txCommit 0 0 0 (pos 0) 0 0 0 0 0
+    ∷ row 9 0 tpgetrply 4 0 0 (pos 30) 0 0 0 0 0
+    ∷ []
+
+-- ---- the tables
+abbrev pub real : List (List Row)
+real = nested ∷ failing ∷ negligent ∷ falling ∷ unfinished ∷ outside ∷ []
+
+abbrev pub spoilt : List Spoilt
+spoilt =
+    -- committed, though the inner service failed
+    breaks commit (told 12 valueField 4 nested)
+    -- committed, though the inner service ended in error
+    ∷ breaks commit (told 12 valueField 2 nested)
+    -- committed, though nobody fetched the inner reply
+    ∷ breaks commit (without 13 nested)
+    -- committed after a failed service, whose reply was fetched
+    ∷ breaks commit (coded 8 (pos 0) failing)
+    -- rolled back for what failed in the transaction before
+    ∷ breaks commit (coded 14 (negsuc 1) failing)
+    -- rolled back, though the service succeeded
+    ∷ breaks commit (told 6 valueField 8 failing)
+    -- committed after a return that left a request open
+    ∷ breaks commit (coded 13 (pos 0) negligent)
+    -- committed after the fall of a server
+    ∷ breaks commit (coded 8 (pos 0) falling)
+    -- rolled back, though the fall ended no service
+    ∷ breaks commit (told 6 valueField 0 falling)
+    -- rolled back for the work that the owner left behind as it fell
+    ∷ breaks commit (coded 18 (negsuc 1) falling)
+    -- committed with a request that nobody has taken
+    ∷ breaks commit (coded 5 (pos 0) unfinished)
+    -- committed with a reply that was not fetched
+    ∷ breaks commit (coded 10 (pos 0) unfinished)
+    -- rolled back with all fetched
+    ∷ breaks commit (coded 16 (negsuc 1) unfinished)
+    -- rolled back for requests outside the transaction
+    ∷ breaks commit (coded 25 (negsuc 1) outside)
+    -- committed, though the open and failed request is of the transaction
+    ∷ breaks commit (asked 15 bField 0 outside)
+    -- committed while the inner service is at work: it never returned
+    ∷ breaks alone (without 12 nested)
+    -- committed while a service is at work whose reply was fetched
+    ∷ breaks alone (without 23 outside)
+    ∷ []
