@@ -1,0 +1,14 @@
+pub mod Alike
+pub mod Asks
+pub mod Keeps
+pub mod Lists
+pub mod Opening
+pub mod Room
+pub mod Sets
+pub mod Table
+pub mod Tokens
+pub mod Turns
+pub mod Usual
+pub mod Calls
+pub mod Writes
+pub mod FileTrip

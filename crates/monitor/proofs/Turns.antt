@@ -1,0 +1,88 @@
+-- A turn of the loop over a list of calls.
+-- Assumes nothing.
+use Prim.Native.Nat.{ℕ, suc, _+_, _-_, _*_, _≤_, _<_}
+use mathlib.Core.Path.{_≡_, ap, sym, _∙_}
+use mathlib.Core.List.{List, [], _++_, append-assoc}
+use native.Mathlib.Nat.{add-zero}
+use native.Mathlib.Omega.{arith}
+use lib.ListN.{length, take, drop, getD, length-append, length-drop}
+use lib.Seq.{getD-drop, drop-drop, take-at, drop-at, length-take-le}
+use lib.IntN.{ℤ}
+use Rattle.rules.specs.declared.Monitor.{Monitor}
+use Rattle.rules.specs.declared.Stepped.{Stepped}
+use Rattle.rules.specs.Step.{callOf}
+use Rattle.rules.specs.declared.Call.{Call}
+use Rattle.rules.specs.Run.{callAt, placesOf, ranOf, answersOf}
+
+-- one call more: the step at the front, and the rest
+answers-more : (k : ℕ) (m : Monitor) (cs : List ℕ) (s : Stepped) → s ≡ callOf m (callAt cs) → answersOf (suc k) m cs ≡ placesOf (s .answer) ++ answersOf k (s .monitor) (drop 6 cs)
+unfolding answersOf
+answers-more k m cs s e = ap (λ (t : Stepped). placesOf (t .answer) ++ answersOf k (t .monitor) (drop 6 cs)) (sym e)
+
+ran-more : (k : ℕ) (m : Monitor) (cs : List ℕ) (s : Stepped) → s ≡ callOf m (callAt cs) → ranOf (suc k) m cs ≡ ranOf k (s .monitor) (drop 6 cs)
+unfolding ranOf
+ran-more k m cs s e = ap (λ (t : Stepped). ranOf k (t .monitor) (drop 6 cs)) (sym e)
+
+pub answers-none : (k : ℕ) (m : Monitor) (cs : List ℕ) → k ≡ 0 → answersOf k m cs ≡ []
+unfolding answersOf
+answers-none k m cs e = rw e
+
+pub ran-none : (k : ℕ) (m : Monitor) (cs : List ℕ) → k ≡ 0 → ranOf k m cs ≡ m
+unfolding ranOf
+ran-none k m cs e = rw e
+
+-- the call at place j of the list is the one at the front of what is left
+pub at-front : (cs : List ℕ) (j : ℕ) → _≡_ {A = Call} (record { clock = getD cs j 0; party = getD cs (j + 1) 0; kind = getD cs (j + 2) 0; a = getD cs (j + 3) 0; b = getD cs (j + 4) 0; c = getD cs (j + 5) 0 }) (callAt (drop j cs))
+unfolding callAt
+at-front cs j = simp (getD-drop, add-zero)
+
+module _ (n i : ℕ) (h : i < n) (calls : List ℕ) (cur m₀ : Monitor) (s : Stepped) (e : s ≡ callOf cur (callAt (drop (i * 6) calls))) where
+  left : n - i ≡ suc (n - (i + 1))
+  left = omega arith
+
+  rest : drop 6 (drop (i * 6) calls) ≡ drop ((i + 1) * 6) calls
+  rest =
+      let q : i * 6 + 6 ≡ (i + 1) * 6 = omega arith in
+      drop-drop 6 (i * 6) calls ∙ ap (λ (k : ℕ). drop k calls) q
+
+  pub turn-ran : ranOf (n - i) cur (drop (i * 6) calls) ≡ ranOf n m₀ calls → ranOf (n - (i + 1)) (s .monitor) (drop ((i + 1) * 6) calls) ≡ ranOf n m₀ calls
+  turn-ran v =
+      ap (ranOf (n - (i + 1)) (s .monitor)) (sym rest)
+      ∙ sym (ran-more (n - (i + 1)) cur (drop (i * 6) calls) s e)
+      ∙ ap (λ (k : ℕ). ranOf k cur (drop (i * 6) calls)) (sym left)
+      ∙ v
+
+  module _ (out out₀ out′ : List ℤ) (room : n * 6 ≤ length out) (w : out′ ≡ take (i * 6) out ++ placesOf (s .answer) ++ drop (i * 6 + 6) out) where
+    next : (i + 1) * 6 ≡ i * 6 + 6
+    next = omega arith
+
+    head-length : length (take (i * 6) out ++ placesOf (s .answer)) ≡ (i + 1) * 6
+    unfolding placesOf
+    head-length =
+        let t : length (take (i * 6) out) ≡ i * 6 = length-take-le (i * 6) out (omega arith) in
+        let u : length (take (i * 6) out ++ placesOf (s .answer)) ≡ length (take (i * 6) out) + 6 = length-append (take (i * 6) out) (placesOf (s .answer)) in
+        omega arith
+
+    pub turn-length : length out′ ≡ length out
+    turn-length =
+        let a : length out′ ≡ length (take (i * 6) out ++ placesOf (s .answer)) + length (drop (i * 6 + 6) out) = ap length w ∙ length-append (take (i * 6) out ++ placesOf (s .answer)) (drop (i * 6 + 6) out) in
+        let b : length (drop (i * 6 + 6) out) ≡ length out - (i * 6 + 6) = length-drop (i * 6 + 6) out in
+        let d : length (take (i * 6) out ++ placesOf (s .answer)) ≡ (i + 1) * 6 = head-length in
+        omega arith
+
+    pub turn-answers : take (i * 6) out ++ answersOf (n - i) cur (drop (i * 6) calls) ≡ answersOf n m₀ calls → take ((i + 1) * 6) out′ ++ answersOf (n - (i + 1)) (s .monitor) (drop ((i + 1) * 6) calls) ≡ answersOf n m₀ calls
+    turn-answers v =
+        ap (λ (r : List ℤ). r ++ answersOf (n - (i + 1)) (s .monitor) (drop ((i + 1) * 6) calls)) (ap (take ((i + 1) * 6)) w ∙ take-at (take (i * 6) out ++ placesOf (s .answer)) (drop (i * 6 + 6) out) ((i + 1) * 6) head-length)
+        ∙ append-assoc (take (i * 6) out) (placesOf (s .answer)) (answersOf (n - (i + 1)) (s .monitor) (drop ((i + 1) * 6) calls))
+        ∙ ap (λ (r : List ℤ). take (i * 6) out ++ r)
+        (ap (λ (cs : List ℕ). placesOf (s .answer) ++ answersOf (n - (i + 1)) (s .monitor) cs) (sym rest)
+        ∙ sym (answers-more (n - (i + 1)) cur (drop (i * 6) calls) s e)
+        ∙ ap (λ (k : ℕ). answersOf k cur (drop (i * 6) calls)) (sym left))
+        ∙ v
+
+    pub turn-past : drop (i * 6) out ≡ drop (i * 6) out₀ → drop ((i + 1) * 6) out′ ≡ drop ((i + 1) * 6) out₀
+    turn-past v =
+        ap (drop ((i + 1) * 6)) w
+        ∙ drop-at (take (i * 6) out ++ placesOf (s .answer)) (drop (i * 6 + 6) out) ((i + 1) * 6) head-length
+        ∙ sym (drop-drop 6 (i * 6) out) ∙ ap (drop 6) v ∙ drop-drop 6 (i * 6) out₀
+        ∙ ap (λ (k : ℕ). drop k out₀) (sym next)

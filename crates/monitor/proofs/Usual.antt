@@ -1,0 +1,52 @@
+-- What the proofs of this crate name, passed on.
+-- Assumes nothing.
+pub use Prim.Native.Nat.{ℕ, suc, _+_, _-_, _*_, _/_, _%_, _≤_, _<_}
+pub use mathlib.Core.Path.{_≡_, refl, ap, ap₂, sym, _∙_}
+pub use mathlib.Core.List.{List, [], _∷_, _++_}
+pub use mathlib.Core.Bool.{Bool, true, false, not, _&&_, _||_}
+pub use mathlib.Core.Logic.{inl, inr, ⊎-elim}
+pub use native.Mathlib.Omega.{arith}
+pub use borrow.Author.Needs.{needs}
+pub use borrow.Author.Tests.{eq-eqb, ne-eqb, lt-ltb, le-ltb, le-leb, lt-leb, not-true, not-false}
+pub use lib.Dec.{eqb, ltb, leb}
+pub use lib.ListN.{length, take, drop, getD, set, drop-of-length-le}
+pub use lib.IntN.{ℤ, pos, negsuc}
+pub use mir.Syntax.{w64}
+pub use mir.Val.{toZ, ofZ}
+pub use mir.Facts.{toZ-pos}
+pub use Rattle.rules.specs.declared.Party.{Party}
+pub use Rattle.rules.specs.declared.Link.{Link}
+pub use Rattle.rules.specs.declared.Monitor.{Monitor}
+pub use Rattle.rules.specs.declared.Ruled.{Ruled}
+pub use Rattle.rules.specs.declared.Stepped.{Stepped}
+unfoldable pub use Rattle.rules.specs.Choice.{pick, same}
+unfoldable pub use Rattle.rules.specs.Lists.{firstOf, anyOf, collect}
+pub use Rattle.rules.specs.Codes.{txOk, unknownKind, noSuchEnd, noRoomLeft, inTransaction, timedOut, noReplyYet}
+unfoldable pub use Rattle.rules.specs.Codes.{noBegin}
+pub use Rattle.rules.specs.Record.{freshParty, freshLink, isOpened, isRollbackOnly, isRequest, isAttached, isWaiting, isReturned, isServerFree, party, live, withClock, withParties, withParty, replaced, added, closed, cutOff, ruled, valued, ask}
+unfoldable pub use Rattle.rules.specs.Record.{blanks, numbered, owns, ownEnd, linkOf, changed, goneOf, removed}
+pub use Rattle.rules.specs.Transaction.{late, rollbackOnly, doom, owningNone}
+unfoldable pub use Rattle.rules.specs.Transaction.{servedTx, txOf, ended, expired, isOwner, doomedIn, deadlineOf, beginTx, orphaned, endOf, endTx, isOpenOf, canCommit}
+unfoldable pub use Rattle.rules.specs.States.{stateOf, nextOf, inState, entered}
+pub use Rattle.rules.specs.Tx.{withTimeout}
+unfoldable pub use Rattle.rules.specs.Tx.{openOf, closeOf, beginOf, goOn, commitCode, commitOf, rollbackOf, infoOf, commitReturnOf, controlOf, timeoutOf}
+pub use Rattle.rules.specs.Services.{isService}
+unfoldable pub use Rattle.rules.specs.Services.{offers, withService, offersNow, advertiseOf, unadvertiseOf}
+pub use Rattle.rules.specs.Requests.{connectFlags, linkLeft}
+unfoldable pub use Rattle.rules.specs.Requests.{linkTx, askLink, requestOf, connectOf, isIdle, fits, dispatchEvent, dispatched, dispatchOf, requestEnd, outcomeCode, fetched, fetchOf, cancelled, cancelOf}
+pub use Rattle.rules.specs.Conversations.{withoutOldest}
+unfoldable pub use Rattle.rules.specs.Conversations.{originatorEnd, serverEnd, anyEnd, hearsCut, hearsReturn, endSide, holds, tellsCut, tellsReturn, sendOn, sendOf, carriesGrant, received, receiveOn, receiveOf, hungUp, disconnectOf}
+pub use Rattle.rules.specs.Return.{returned}
+unfoldable pub use Rattle.rules.specs.Return.{plainOutcome, outcomeOf, unreadAfter, closeEnd, doomedBy, closeOwn, endOwn, doomServed, servesNone, endingOf, handBack, leave, returnWith, returnOf, diedOut, terminateOf}
+pub use Rattle.rules.specs.Sound.{linkGood}
+unfoldable pub use Rattle.rules.specs.Sound.{linksGood, worksFor, partyGood, partiesGood, sound}
+pub use Rattle.rules.specs.Step.{answered}
+unfoldable pub use Rattle.rules.specs.Step.{ruleOf, laterOf, told, turnedDown, callOf, stepOf}
+pub use Rattle.rules.specs.Run.{listed}
+unfoldable pub use Rattle.rules.specs.Run.{placesOf, ranOf, answersOf, listOf}
+unfoldable pub use Rattle.rules.specs.Equal.{sameParty, sameLink, allSame, sameRecord, equal}
+pub use Rattle.monitor.specs.Numbered.{withNumber}
+pub use Rattle.rules.proofs.Logic.{pick-true, pick-false, same-eq, same-ne}
+pub use Rattle.monitor.proofs.Lists.{live-at, live-past, rest-cons, first-hit, first-more, first-none, any-here, any-later, any-none, any-first}
+pub use Rattle.monitor.proofs.Room.{noLink, links-long, parties-long, next-live, end-live, Gathers, gather-none, gather-one, gather-skip, gathered}
+pub use Rattle.monitor.proofs.Keeps.{HasRoom, doom-served-room, serves-none-room, rule-room, sound-room}

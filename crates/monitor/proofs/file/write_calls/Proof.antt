@@ -1,0 +1,73 @@
+-- `monitor::file::write_calls` meets its contract.
+-- Assumes nothing.
+use Prim.Native.Nat.{_+_, _-_, _≤_, _<_}
+use mathlib.Core.Path.{ap, sym, _∙_}
+use native.Mathlib.Omega.{arith}
+use borrow.Author.Needs.{needs}
+use lib.ListN.{length}
+use borrow.Author.Tests.{leb-true, leb-false, not-true, not-false}
+use Rattle.monitor.specs.File.{fileBytes, wrote, written}
+use Rattle.monitor.proofs.Writes.{unfinished-answer, unfinished-buffer, little-answer, little-buffer, enough-answer, enough-buffer}
+use Rattle.monitor.proofs.file.write_calls.Statement.{statement}
+use Rattle.monitor.proofs.file.write_calls.Tie as tie
+
+returns : tie.Need-returns
+unfolding written
+returns c = (unfinished-answer _ _ _ (c .if1 .taken), unfinished-buffer _ _ _ (c .if1 .taken))
+
+returns-2 : tie.Need-returns-2
+unfolding written
+returns-2 c =
+    let a = c .before .before .before .before .args in
+    let h = c .before .if1 .left in
+    let k : length (a .buffer .now) < a .place + length (fileBytes (a .calls .now)) = omega (arith, c .if2 .taken) in
+    (little-answer (a .buffer .now) (a .place) (a .calls .now) h k, little-buffer (a .buffer .now) (a .place) (a .calls .now) h k)
+
+sub-room : tie.Need-sub-room
+sub-room c = search needs
+
+fits-requires : tie.Need-fits-requires
+fits-requires c κs = search needs
+
+returns-3 : tie.Need-returns-3
+unfolding written
+returns-3 c =
+    let a = c .before .before .before .before .before .before .args in
+    let e = leb-false (length (fileBytes (a .calls .now))) (length (a .buffer .now) - a .place) (sym (c .before .fits2 .ensures) ∙ not-true _ (c .if3 .taken)) in
+    let h = c .before .before .before .if1 .left in
+    let k : length (a .buffer .now) < a .place + length (fileBytes (a .calls .now)) = omega (arith, e, c .before .before .if2 .left) in
+    (little-answer (a .buffer .now) (a .place) (a .calls .now) h k, little-buffer (a .buffer .now) (a .place) (a .calls .now) h k)
+
+write-numbers-requires : tie.Need-write-numbers-requires
+write-numbers-requires c κs =
+    let a = c .before .before .before .before .before .before .before .args in
+    let e = leb-true (length (fileBytes (a .calls .now))) (length (a .buffer .now) - a .place) (sym (c .before .before .fits2 .ensures) ∙ not-false _ (c .before .if3 .left)) in
+    omega (arith, e, c .before .before .before .if2 .left)
+
+same-length : tie.Need-same-length
+same-length c = search needs
+
+returns-4 : tie.Need-returns-4
+unfolding written
+returns-4 c =
+    let a = c .before .before .before .before .before .before .before .before .before .before .args in
+    let e = leb-true (length (fileBytes (a .calls .now))) (length (a .buffer .now) - a .place) (sym (c .before .before .before .before .before .fits2 .ensures) ∙ not-false _ (c .before .before .before .before .if3 .left)) in
+    let h = c .before .before .before .before .before .before .before .if1 .left in
+    let k : a .place + length (fileBytes (a .calls .now)) ≤ length (a .buffer .now) = omega (arith, e, c .before .before .before .before .before .before .if2 .left) in
+    let r = c .before .before .write-numbers .ensures in (
+      ap wrote (r .0) ∙ enough-answer (a .buffer .now) (a .place) (a .calls .now) h k,
+      r .1 ∙ enough-buffer (a .buffer .now) (a .place) (a .calls .now) h k,
+    )
+
+pub write-calls-spec : {M : Type 1} → statement M
+write-calls-spec =
+    tie.close
+    (tie.spec
+    returns
+    returns-2
+    sub-room
+    fits-requires
+    returns-3
+    write-numbers-requires
+    same-length
+    returns-4)

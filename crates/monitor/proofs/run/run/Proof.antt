@@ -1,0 +1,94 @@
+-- `run::run` meets its contract.
+-- Assumes nothing.
+use Rattle.monitor.proofs.Usual.{ℕ, _+_, _-_, _*_, _≤_, _≡_, refl, ap, sym, _∙_, List, _++_, arith, needs, length, take, drop, ℤ, callOf, placesOf, ranOf, answersOf}
+use Rattle.monitor.proofs.Turns.{turn-length, turn-answers, turn-past, turn-ran, answers-none, ran-none}
+use lib.ListN.{take-append-drop}
+use mathlib.Core.List.{append-nil}
+use Rattle.monitor.proofs.run.run.Statement.{statement}
+use Rattle.monitor.proofs.run.run.Tie as tie
+
+abbrev Inv-loop : tie.InvT-loop
+Inv-loop calls out₀ n cur₀ i₀ out cur i =
+    (i ≤ n) × (length out ≡ length out₀) × (take (i * 6) out ++ answersOf (n - i) cur (drop (i * 6) calls) ≡ answersOf n cur₀ calls) × (drop (i * 6) out ≡ drop (i * 6) out₀)
+    × (ranOf (n - i) cur (drop (i * 6) calls) ≡ ranOf n cur₀ calls) × (cur .count ≤ 32)
+
+abbrev μ-loop : tie.MeasureT-loop
+μ-loop calls out₀ n cur₀ i₀ out cur i = n - i
+
+loop-holds : tie.Need-loop-holds Inv-loop μ-loop
+loop-holds c =
+    let a = c .before .args in
+    let z : a .n - 0 ≡ a .n = omega arith in
+    (search needs, refl, ap (λ (k : ℕ). answersOf k (a .m) (a .calls .now)) z, refl, ap (λ (k : ℕ). ranOf k (a .m) (a .calls .now)) z, search needs)
+
+mul-at : tie.Need-mul-at Inv-loop μ-loop
+mul-at c = search needs
+
+call-at-requires : tie.Need-call-at-requires Inv-loop μ-loop
+call-at-requires c κs = search needs
+
+call-on-requires : tie.Need-call-on-requires Inv-loop μ-loop
+call-on-requires c κs = search needs
+
+put-requires : tie.Need-put-requires Inv-loop μ-loop
+put-requires c κs = search needs
+
+add-i : tie.Need-add-i Inv-loop μ-loop
+add-i c = search needs
+
+loop-less : tie.Need-loop-less Inv-loop μ-loop
+loop-less c = search needs
+
+loop-again : tie.Need-loop-again Inv-loop μ-loop
+loop-again c =
+    let a = c .before .before .before .before .before .before .before .before .before .before .args in
+    let v = c .before .before .before .before .before .before .before .before .loop in
+    let t = c .before .before .before .before .before .before .before .loop-test .taken in
+    let s = c .before .before .before .before .before .call-on .result in
+    let out′ = c .before .before .put .last .0 in
+    let e = c .before .before .before .before .before .call-on .ensures .0 ∙ ap (callOf (v .cur)) (c .before .before .before .before .before .before .call-at .ensures) in
+    let w : out′ ≡ take (v .i * 6) (v .out) ++ placesOf (s .answer) ++ drop (v .i * 6 + 6) (v .out) = c .before .before .put .ensures in
+    let room : a .n * 6 ≤ length (v .out) = omega (arith, v .inv .1, c .before .before .before .before .before .before .before .before .before .before .pre) in (
+      omega (arith, t),
+      turn-length (a .n) (v .i) t (a .calls .now) (v .cur) (a .m) s e (v .out) (a .out .now) out′ room w ∙ v .inv .1,
+      turn-answers (a .n) (v .i) t (a .calls .now) (v .cur) (a .m) s e (v .out) (a .out .now) out′ room w (v .inv .2),
+      turn-past (a .n) (v .i) t (a .calls .now) (v .cur) (a .m) s e (v .out) (a .out .now) out′ room w (v .inv .3),
+      turn-ran (a .n) (v .i) t (a .calls .now) (v .cur) (a .m) s e (v .inv .4),
+      c .before .before .before .before .before .call-on .ensures .1,
+    )
+
+same-length : tie.Need-same-length Inv-loop μ-loop
+same-length c = search needs
+
+returns : tie.Need-returns Inv-loop μ-loop
+returns c =
+    let a = c .before .before .before .args in
+    let v = c .before .loop in
+    let i : v .i ≡ a .n = omega arith in
+    let z : a .n - v .i ≡ 0 = omega arith in
+    let k : List ℤ = answersOf (a .n) (a .m) (a .calls .now) in
+    let p : take (v .i * 6) (v .out) ≡ k =
+    sym (append-nil (take (v .i * 6) (v .out)))
+    ∙ ap (λ (r : List ℤ). take (v .i * 6) (v .out) ++ r) (sym (answers-none (a .n - v .i) (v .cur) (drop (v .i * 6) (a .calls .now)) z))
+    ∙ v .inv .2 in
+    let q : drop (v .i * 6) (v .out) ≡ drop (a .n * 6) (a .out .now) = v .inv .3 ∙ ap (λ (j : ℕ). drop (j * 6) (a .out .now)) i in (
+      sym (ran-none (a .n - v .i) (v .cur) (drop (v .i * 6) (a .calls .now)) z) ∙ v .inv .4,
+      sym (take-append-drop (v .i * 6) (v .out)) ∙ ap (λ (r : List ℤ). r ++ drop (v .i * 6) (v .out)) p ∙ ap (λ (r : List ℤ). k ++ r) q,
+    )
+
+pub run-spec : {M : Type 1} → statement M
+run-spec =
+    tie.close
+    (tie.spec
+    Inv-loop
+    μ-loop
+    loop-holds
+    mul-at
+    call-at-requires
+    call-on-requires
+    put-requires
+    add-i
+    loop-less
+    loop-again
+    same-length
+    returns)

@@ -1,0 +1,78 @@
+-- `tpadvertise` meets its contract: each question refused, and the set with the service.
+-- Assumes nothing.
+use Rattle.monitor.proofs.Usual.{ℕ, ap, sym, _∙_, Bool, _||_, arith, needs, not-true, not-false, ltb, pick-true, pick-false, offersNow, advertiseOf, ap₂}
+use Rattle.monitor.proofs.Sets.{below-services, above-services, within-services}
+use Rattle.monitor.proofs.services.tpadvertise.Statement.{statement}
+use Rattle.monitor.proofs.services.tpadvertise.Tie as tie
+
+-- may a party offer the service: it has it, or offers fewer than 8
+abbrev may : Bool → ℕ → Bool
+may has some = has || ltb some 8
+
+coded-requires : tie.Need-coded-requires
+coded-requires c κs = search needs
+
+returns : tie.Need-returns
+unfolding advertiseOf
+returns c = c .coded .ensures ∙ sym (pick-false _ _ _ (below-services _ (c .before .if1 .taken)))
+
+coded-requires-2 : tie.Need-coded-requires-2
+coded-requires-2 c κs = search needs
+
+returns-2 : tie.Need-returns-2
+unfolding advertiseOf
+returns-2 c = c .coded2 .ensures ∙ sym (pick-false _ _ _ (above-services _ (c .before .if2 .taken)))
+
+mul-q : tie.Need-mul-q
+mul-q c = search needs
+
+element-copy-out-q : tie.Need-element-copy-out-q
+element-copy-out-q c = search needs
+
+is-offering-requires : tie.Need-is-offering-requires
+is-offering-requires c κs = search needs
+
+service-count-requires : tie.Need-service-count-requires
+service-count-requires c κs = search needs
+
+coded-requires-3 : tie.Need-coded-requires-3
+coded-requires-3 c κs = search needs
+
+returns-3 : tie.Need-returns-3
+unfolding advertiseOf
+returns-3 c =
+    let a = c .before .before .before .before .before .before .before .args .a in
+    c .coded3 .ensures
+    ∙ sym (pick-true _ _ _ (within-services a (omega arith) (omega arith)) ∙ pick-false _ _ _ (sym (ap₂ may (c .before .before .before .is-offering .ensures) (c .before .before .service-count .ensures)) ∙ not-true _ (c .before .if3 .taken)))
+
+with-service-requires : tie.Need-with-service-requires
+with-service-requires c κs = search needs
+
+offer-requires : tie.Need-offer-requires
+offer-requires c κs = search needs
+
+returns-4 : tie.Need-returns-4
+unfolding advertiseOf
+returns-4 c =
+    let a = c .before .before .before .before .before .before .before .before .args in
+    c .offer .ensures
+    ∙ ap (offersNow (a .t1) (a .p)) (c .before .with-service .ensures)
+    ∙ sym (pick-true _ _ _ (within-services (a .a) (omega arith) (omega arith)) ∙ pick-true _ _ _ (sym (ap₂ may (c .before .before .before .before .is-offering .ensures) (c .before .before .before .service-count .ensures)) ∙ not-false _ (c .before .before .if3 .left)))
+
+pub tpadvertise-spec : {M : Type 1} → statement M
+tpadvertise-spec =
+    tie.close
+    (tie.spec
+    coded-requires
+    returns
+    coded-requires-2
+    returns-2
+    mul-q
+    element-copy-out-q
+    is-offering-requires
+    service-count-requires
+    coded-requires-3
+    returns-3
+    with-service-requires
+    offer-requires
+    returns-4)

@@ -1,0 +1,283 @@
+-- the rule of the kind that the match found
+use Rattle.monitor.proofs.Usual.{ℕ, _≡_, ap, sym, _∙_, ⊎-elim, needs, ne-eqb, Monitor, pick, unknownKind, ruled, ruleOf, pick-false}
+use Rattle.monitor.proofs.steps.rule.Statement.{statement}
+use Rattle.monitor.proofs.steps.rule.Tie as tie
+
+at : (m : Monitor) (p a b c : ℕ) {k n : ℕ} → k ≡ n → ruleOf m p k a b c ≡ ruleOf m p n a b c
+at m p a b c e = ap (λ (k : ℕ). ruleOf m p k a b c) e
+
+unknown : (m : Monitor) (p k a b c : ℕ) → (k ≡ 1 → ⊥) → (k ≡ 2 → ⊥) → (k ≡ 3 → ⊥) → (k ≡ 4 → ⊥) → (k ≡ 5 → ⊥) → (k ≡ 6 → ⊥) → (k ≡ 7 → ⊥) → (k ≡ 8 → ⊥) → (k ≡ 9 → ⊥) → (k ≡ 10 → ⊥) → (k ≡ 11 → ⊥) → (k ≡ 12 → ⊥) → (k ≡ 13 → ⊥) → (k ≡ 14 → ⊥) → (k ≡ 15 → ⊥) → (k ≡ 16 → ⊥) → (k ≡ 17 → ⊥) → (k ≡ 18 → ⊥) → (k ≡ 19 → ⊥) → (k ≡ 20 → ⊥) → (k ≡ 21 → ⊥) → ruleOf m p k a b c ≡ ruled m unknownKind
+unfolding ruleOf
+unknown m p k a b c n1 n2 n3 n4 n5 n6 n7 n8 n9 n10 n11 n12 n13 n14 n15 n16 n17 n18 n19 n20 n21 =
+    pick-false _ _ _ (ne-eqb k 1 n1)
+    ∙ pick-false _ _ _ (ne-eqb k 2 n2)
+    ∙ pick-false _ _ _ (ne-eqb k 3 n3)
+    ∙ pick-false _ _ _ (ne-eqb k 4 n4)
+    ∙ pick-false _ _ _ (ne-eqb k 5 n5)
+    ∙ pick-false _ _ _ (ne-eqb k 6 n6)
+    ∙ pick-false _ _ _ (ne-eqb k 7 n7)
+    ∙ pick-false _ _ _ (ne-eqb k 8 n8)
+    ∙ pick-false _ _ _ (ne-eqb k 9 n9)
+    ∙ pick-false _ _ _ (ne-eqb k 10 n10)
+    ∙ pick-false _ _ _ (ne-eqb k 11 n11)
+    ∙ pick-false _ _ _ (ne-eqb k 12 n12)
+    ∙ pick-false _ _ _ (ne-eqb k 13 n13)
+    ∙ pick-false _ _ _ (ne-eqb k 14 n14)
+    ∙ pick-false _ _ _ (ne-eqb k 15 n15)
+    ∙ pick-false _ _ _ (ne-eqb k 16 n16)
+    ∙ pick-false _ _ _ (ne-eqb k 17 n17)
+    ∙ pick-false _ _ _ (ne-eqb k 18 n18)
+    ∙ pick-false _ _ _ (ne-eqb k 19 n19)
+    ∙ pick-false _ _ _ (ne-eqb k 20 n20)
+    ∙ pick-false _ _ _ (ne-eqb k 21 n21)
+
+tx-open-requires : tie.Need-tx-open-requires
+tx-open-requires c κs = search needs
+
+tx-close-requires : tie.Need-tx-close-requires
+tx-close-requires c κs = search needs
+
+tx-begin-requires : tie.Need-tx-begin-requires
+tx-begin-requires c κs = search needs
+
+tx-commit-requires : tie.Need-tx-commit-requires
+tx-commit-requires c κs = search needs
+
+tx-rollback-requires : tie.Need-tx-rollback-requires
+tx-rollback-requires c κs = search needs
+
+tx-info-requires : tie.Need-tx-info-requires
+tx-info-requires c κs = search needs
+
+tx-set-commit-return-requires : tie.Need-tx-set-commit-return-requires
+tx-set-commit-return-requires c κs = search needs
+
+tx-set-transaction-control-requires : tie.Need-tx-set-transaction-control-requires
+tx-set-transaction-control-requires c κs = search needs
+
+tx-set-transaction-timeout-requires : tie.Need-tx-set-transaction-timeout-requires
+tx-set-transaction-timeout-requires c κs = search needs
+
+tpadvertise-requires : tie.Need-tpadvertise-requires
+tpadvertise-requires c κs = search needs
+
+tpunadvertise-requires : tie.Need-tpunadvertise-requires
+tpunadvertise-requires c κs = search needs
+
+tpacall-requires : tie.Need-tpacall-requires
+tpacall-requires c κs = search needs
+
+tpconnect-requires : tie.Need-tpconnect-requires
+tpconnect-requires c κs = search needs
+
+take-requires : tie.Need-take-requires
+take-requires c κs = search needs
+
+tpgetrply-requires : tie.Need-tpgetrply-requires
+tpgetrply-requires c κs = search needs
+
+tpcancel-requires : tie.Need-tpcancel-requires
+tpcancel-requires c κs = search needs
+
+tpsend-requires : tie.Need-tpsend-requires
+tpsend-requires c κs = search needs
+
+tprecv-requires : tie.Need-tprecv-requires
+tprecv-requires c κs = search needs
+
+tpdiscon-requires : tie.Need-tpdiscon-requires
+tpdiscon-requires c κs = search needs
+
+tpreturn-requires : tie.Need-tpreturn-requires
+tpreturn-requires c κs = search needs
+
+terminate-requires : tie.Need-terminate-requires
+terminate-requires c κs = search needs
+
+coded-requires : tie.Need-coded-requires
+coded-requires c κs = search needs
+
+returns : tie.Need-returns
+unfolding ruleOf pick
+returns c =
+    let a = c .before .before .args in
+    c .tx-open .ensures ∙ sym (at (a .m) (a .p) (a .a) (a .b) (a .c) (c .before .match .keys1))
+
+returns-2 : tie.Need-returns-2
+unfolding ruleOf pick
+returns-2 c =
+    let a = c .before .before .args in
+    c .tx-close .ensures ∙ sym (at (a .m) (a .p) (a .a) (a .b) (a .c) (c .before .match .keys2))
+
+returns-3 : tie.Need-returns-3
+unfolding ruleOf pick
+returns-3 c =
+    let a = c .before .before .args in
+    c .tx-begin .ensures ∙ sym (at (a .m) (a .p) (a .a) (a .b) (a .c) (c .before .match .keys3))
+
+returns-4 : tie.Need-returns-4
+unfolding ruleOf pick
+returns-4 c =
+    let a = c .before .before .args in
+    c .tx-commit .ensures ∙ sym (at (a .m) (a .p) (a .a) (a .b) (a .c) (c .before .match .keys4))
+
+returns-5 : tie.Need-returns-5
+unfolding ruleOf pick
+returns-5 c =
+    let a = c .before .before .args in
+    c .tx-rollback .ensures ∙ sym (at (a .m) (a .p) (a .a) (a .b) (a .c) (c .before .match .keys5))
+
+returns-6 : tie.Need-returns-6
+unfolding ruleOf pick
+returns-6 c =
+    let a = c .before .before .args in
+    c .tx-info .ensures ∙ sym (at (a .m) (a .p) (a .a) (a .b) (a .c) (c .before .match .keys6))
+
+returns-7 : tie.Need-returns-7
+unfolding ruleOf pick
+returns-7 c =
+    let a = c .before .before .args in
+    c .tx-set-commit-return .ensures ∙ sym (at (a .m) (a .p) (a .a) (a .b) (a .c) (c .before .match .keys7))
+
+returns-8 : tie.Need-returns-8
+unfolding ruleOf pick
+returns-8 c =
+    let a = c .before .before .args in
+    c .tx-set-transaction-control .ensures ∙ sym (at (a .m) (a .p) (a .a) (a .b) (a .c) (c .before .match .keys8))
+
+returns-9 : tie.Need-returns-9
+unfolding ruleOf pick
+returns-9 c =
+    let a = c .before .before .args in
+    c .tx-set-transaction-timeout .ensures ∙ sym (at (a .m) (a .p) (a .a) (a .b) (a .c) (c .before .match .keys9))
+
+returns-10 : tie.Need-returns-10
+unfolding ruleOf pick
+returns-10 c =
+    let a = c .before .before .args in
+    c .tpadvertise .ensures ∙ sym (at (a .m) (a .p) (a .a) (a .b) (a .c) (c .before .match .keys10))
+
+returns-11 : tie.Need-returns-11
+unfolding ruleOf pick
+returns-11 c =
+    let a = c .before .before .args in
+    c .tpunadvertise .ensures ∙ sym (at (a .m) (a .p) (a .a) (a .b) (a .c) (c .before .match .keys11))
+
+returns-12 : tie.Need-returns-12
+unfolding ruleOf pick
+returns-12 c =
+    let a = c .before .before .args in
+    c .tpacall .ensures ∙ sym (at (a .m) (a .p) (a .a) (a .b) (a .c) (c .before .match .keys12))
+
+returns-13 : tie.Need-returns-13
+unfolding ruleOf pick
+returns-13 c =
+    let a = c .before .before .args in
+    c .tpconnect .ensures ∙ sym (at (a .m) (a .p) (a .a) (a .b) (a .c) (c .before .match .keys13))
+
+returns-14 : tie.Need-returns-14
+unfolding ruleOf pick
+returns-14 c =
+    let a = c .before .before .args in
+    c .take .ensures ∙ sym (at (a .m) (a .p) (a .a) (a .b) (a .c) (c .before .match .keys14))
+
+returns-15 : tie.Need-returns-15
+unfolding ruleOf pick
+returns-15 c =
+    let a = c .before .before .args in
+    c .tpgetrply .ensures ∙ sym (at (a .m) (a .p) (a .a) (a .b) (a .c) (c .before .match .keys15))
+
+returns-16 : tie.Need-returns-16
+unfolding ruleOf pick
+returns-16 c =
+    let a = c .before .before .args in
+    c .tpcancel .ensures ∙ sym (at (a .m) (a .p) (a .a) (a .b) (a .c) (c .before .match .keys16))
+
+returns-17 : tie.Need-returns-17
+unfolding ruleOf pick
+returns-17 c =
+    let a = c .before .before .args in
+    c .tpsend .ensures ∙ sym (at (a .m) (a .p) (a .a) (a .b) (a .c) (c .before .match .keys17))
+
+returns-18 : tie.Need-returns-18
+unfolding ruleOf pick
+returns-18 c =
+    let a = c .before .before .args in
+    c .tprecv .ensures ∙ sym (at (a .m) (a .p) (a .a) (a .b) (a .c) (c .before .match .keys18))
+
+returns-19 : tie.Need-returns-19
+unfolding ruleOf pick
+returns-19 c =
+    let a = c .before .before .args in
+    c .tpdiscon .ensures ∙ sym (at (a .m) (a .p) (a .a) (a .b) (a .c) (c .before .match .keys19))
+
+returns-20 : tie.Need-returns-20
+unfolding ruleOf pick
+returns-20 c =
+    let a = c .before .before .args in
+    c .tpreturn .ensures ∙ sym (at (a .m) (a .p) (a .a) (a .b) (a .c) (c .before .match .keys20))
+
+returns-21 : tie.Need-returns-21
+unfolding ruleOf pick
+returns-21 c =
+    let a = c .before .before .args in
+    c .terminate .ensures ∙ sym (at (a .m) (a .p) (a .a) (a .b) (a .c) (c .before .match .keys21))
+
+returns-22 : tie.Need-returns-22
+unfolding ruleOf pick
+returns-22 c =
+    let a = c .before .before .args in
+    c .coded .ensures
+    ∙ sym (⊎-elim
+    (λ w. at (a .m) (a .p) (a .a) (a .b) (a .c) (w .keys22))
+    (λ w. unknown (a .m) (a .p) (a .k) (a .a) (a .b) (a .c) (w .rest .0 .0 .0 .0 .0 .0 .0 .0 .0 .0 .0 .0 .0 .0 .0 .0 .0 .0 .0 .0 .0 .1) (w .rest .0 .0 .0 .0 .0 .0 .0 .0 .0 .0 .0 .0 .0 .0 .0 .0 .0 .0 .0 .0 .1) (w .rest .0 .0 .0 .0 .0 .0 .0 .0 .0 .0 .0 .0 .0 .0 .0 .0 .0 .0 .0 .1) (w .rest .0 .0 .0 .0 .0 .0 .0 .0 .0 .0 .0 .0 .0 .0 .0 .0 .0 .0 .1) (w .rest .0 .0 .0 .0 .0 .0 .0 .0 .0 .0 .0 .0 .0 .0 .0 .0 .0 .1) (w .rest .0 .0 .0 .0 .0 .0 .0 .0 .0 .0 .0 .0 .0 .0 .0 .0 .1) (w .rest .0 .0 .0 .0 .0 .0 .0 .0 .0 .0 .0 .0 .0 .0 .0 .1) (w .rest .0 .0 .0 .0 .0 .0 .0 .0 .0 .0 .0 .0 .0 .0 .1) (w .rest .0 .0 .0 .0 .0 .0 .0 .0 .0 .0 .0 .0 .0 .1) (w .rest .0 .0 .0 .0 .0 .0 .0 .0 .0 .0 .0 .0 .1) (w .rest .0 .0 .0 .0 .0 .0 .0 .0 .0 .0 .0 .1) (w .rest .0 .0 .0 .0 .0 .0 .0 .0 .0 .0 .1) (w .rest .0 .0 .0 .0 .0 .0 .0 .0 .0 .1) (w .rest .0 .0 .0 .0 .0 .0 .0 .0 .1) (w .rest .0 .0 .0 .0 .0 .0 .0 .1) (w .rest .0 .0 .0 .0 .0 .0 .1) (w .rest .0 .0 .0 .0 .0 .1) (w .rest .0 .0 .0 .0 .1) (w .rest .0 .0 .0 .1) (w .rest .0 .0 .1) (w .rest .0 .1))
+    (c .before .match .came))
+
+pub rule-spec : {M : Type 1} → statement M
+rule-spec =
+    tie.close
+    (tie.spec
+    tx-open-requires
+    tx-close-requires
+    tx-begin-requires
+    tx-commit-requires
+    tx-rollback-requires
+    tx-info-requires
+    tx-set-commit-return-requires
+    tx-set-transaction-control-requires
+    tx-set-transaction-timeout-requires
+    tpadvertise-requires
+    tpunadvertise-requires
+    tpacall-requires
+    tpconnect-requires
+    take-requires
+    tpgetrply-requires
+    tpcancel-requires
+    tpsend-requires
+    tprecv-requires
+    tpdiscon-requires
+    tpreturn-requires
+    terminate-requires
+    coded-requires
+    returns
+    returns-2
+    returns-3
+    returns-4
+    returns-5
+    returns-6
+    returns-7
+    returns-8
+    returns-9
+    returns-10
+    returns-11
+    returns-12
+    returns-13
+    returns-14
+    returns-15
+    returns-16
+    returns-17
+    returns-18
+    returns-19
+    returns-20
+    returns-21
+    returns-22)

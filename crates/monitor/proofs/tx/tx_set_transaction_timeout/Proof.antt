@@ -1,0 +1,46 @@
+-- `tx_set_transaction_timeout` meets its contract: the timeout is set if it is in range.
+-- Assumes nothing.
+use Rattle.monitor.proofs.Usual.{ap, sym, _∙_, needs, le-leb, lt-leb, pick-true, pick-false, Monitor, ruled, timeoutOf, txOk}
+use Rattle.monitor.proofs.Asks.{blank-refused, state-passed}
+use Rattle.monitor.proofs.tx.tx_set_transaction_timeout.Statement.{statement}
+use Rattle.monitor.proofs.tx.tx_set_transaction_timeout.Tie as tie
+
+state-after-requires : tie.Need-state-after-requires
+state-after-requires c κs = search needs
+
+coded-requires : tie.Need-coded-requires
+coded-requires c κs = search needs
+
+returns : tie.Need-returns
+unfolding timeoutOf
+returns c = c .coded .ensures ∙ blank-refused _ _ _ _ _ (c .before .before .state-after .ensures .0) (c .before .if1 .taken)
+
+coded-requires-2 : tie.Need-coded-requires-2
+coded-requires-2 c κs = search needs
+
+returns-2 : tie.Need-returns-2
+unfolding timeoutOf
+returns-2 c = c .coded2 .ensures ∙ sym (pick-false _ _ _ (lt-leb _ _ (c .before .if2 .taken))) ∙ state-passed _ _ _ _ _ (c .before .before .before .state-after .ensures .0) (c .before .before .if1 .left)
+
+set-timeout-requires : tie.Need-set-timeout-requires
+set-timeout-requires c κs = search needs
+
+coded-requires-3 : tie.Need-coded-requires-3
+coded-requires-3 c κs = search needs
+
+returns-3 : tie.Need-returns-3
+unfolding timeoutOf
+returns-3 c = c .coded3 .ensures ∙ ap (λ (n : Monitor). ruled n txOk) (c .before .set-timeout .ensures) ∙ sym (pick-true _ _ _ (le-leb _ _ (c .before .before .if2 .left))) ∙ state-passed _ _ _ _ _ (c .before .before .before .before .state-after .ensures .0) (c .before .before .before .if1 .left)
+
+pub tx-set-transaction-timeout-spec : {M : Type 1} → statement M
+tx-set-transaction-timeout-spec =
+    tie.close
+    (tie.spec
+    state-after-requires
+    coded-requires
+    returns
+    coded-requires-2
+    returns-2
+    set-timeout-requires
+    coded-requires-3
+    returns-3)

@@ -1,0 +1,267 @@
+// The drill file: calls as numbers in groups of seven bits, six to a call; reading one, running a file, writing one.
+ghost use mathlib.Core.Path.{_≡_};
+ghost use mathlib.Core.Bool.{Bool};
+ghost use Prim.Native.Nat.{ℕ, _+_, _*_, _<_, _≤_};
+ghost use lib.Dec.{leb};
+ghost use lib.ListN.{length};
+ghost use lib.Seq.{sets};
+ghost use Rattle.monitor.specs.File.{readCall, found, passed, pieceRun, pieceOf, fileOf, fileCalls, fileBytes, written, writeAnswer, writeBuffer};
+use super::run::put;
+use super::sound::is_sound;
+use super::steps::call_on;
+use number::Decoded;
+use number::Encoded;
+use rules::Call;
+use rules::Monitor;
+
+// What stands at a place of a drill file.
+pub enum Found {
+    // a whole call, and the place after it
+    Whole(Call, usize),
+    // the file ends between two calls
+    End,
+    // it ends inside a call
+    CutShort,
+    // a number that is too long, too large or longer than needed
+    Malformed,
+}
+
+// The call at a place.
+pub fn read_call(input: &[u8], place: usize) -> Found
+    ensures { λ r. ⌜ found r ≡ readCall (now (input .entry)) place ⌝ }
+{
+    if input.len() <= place {
+        return Found::End;
+    }
+    let mut values = [0u32; 6];
+    let mut at = place;
+    let mut i = 0;
+    while i < 6 {
+        let read = number::decode(input, at);
+        match read {
+            Decoded::Value(value, next) => {
+                values[i] = value;
+                at = next;
+                i += 1;
+            }
+            Decoded::CutShort => {
+                return Found::CutShort;
+            }
+            Decoded::Malformed => {
+                return Found::Malformed;
+            }
+        }
+    }
+    Found::Whole(
+        Call {
+            clock: values[0],
+            party: values[1],
+            kind: values[2],
+            a: values[3],
+            b: values[4],
+            c: values[5],
+        },
+        at,
+    )
+}
+
+// What a drill file gives, beside its answers: the record after its calls, its code, how many calls were run, and the place after them.
+pub struct FileRan {
+    pub monitor: Monitor,
+    pub code: i64,
+    pub calls: usize,
+    pub used: usize,
+}
+
+// The calls of a piece of a file on a sound record, as many as there are answer places for; `last` says that the file ends with the piece.
+fn run_calls(m: Monitor, input: &[u8], last: bool, answers: &mut [i64]) -> FileRan
+    requires { ⌜ m .count ≤ 32 ⌝ }
+    ensures { λ r. ⌜ passed (r .monitor) (r .code) (r .calls) (r .used) (now (answers .exit)) ≡ pieceRun m (now (input .entry)) last (now (answers .entry)) ⌝ }
+{
+    let most = answers.len() / 6;
+    let mut cur = m;
+    let mut at = 0;
+    let mut n = 0;
+    loop {
+        let found = read_call(input, at);
+        match found {
+            Found::Whole(call, next) => {
+                if most <= n {
+                    return FileRan {
+                        monitor: cur,
+                        code: 0,
+                        calls: n,
+                        used: at,
+                    };
+                }
+                let s = call_on(cur, call);
+                let r = s.answer;
+                put(&mut *answers, n * 6, r);
+                let after = s.monitor;
+                cur = after;
+                at = next;
+                n += 1;
+            }
+            Found::End => {
+                return FileRan {
+                    monitor: cur,
+                    code: 0,
+                    calls: n,
+                    used: at,
+                };
+            }
+            Found::CutShort => {
+                if last {
+                    return FileRan {
+                        monitor: cur,
+                        code: 17,
+                        calls: n,
+                        used: at,
+                    };
+                }
+                return FileRan {
+                    monitor: cur,
+                    code: 0,
+                    calls: n,
+                    used: at,
+                };
+            }
+            Found::Malformed => {
+                return FileRan {
+                    monitor: cur,
+                    code: 18,
+                    calls: n,
+                    used: at,
+                };
+            }
+        }
+    }
+}
+
+// A piece of a file.
+pub fn run_piece(m: Monitor, input: &[u8], last: bool, answers: &mut [i64]) -> FileRan
+    ensures { λ r. ⌜ passed (r .monitor) (r .code) (r .calls) (r .used) (now (answers .exit)) ≡ pieceOf m (now (input .entry)) last (now (answers .entry)) ⌝ }
+{
+    let ok = is_sound(m);
+    if !ok {
+        return FileRan {
+            monitor: m,
+            code: 19,
+            calls: 0,
+            used: 0,
+        };
+    }
+    run_calls(m, input, last, answers)
+}
+
+// How many whole calls a file has, before its end or a bad number.
+fn count_calls(input: &[u8]) -> usize
+    ensures { λ r. ⌜ r ≡ fileCalls (now (input .entry)) .count ⌝ }
+{
+    let mut at = 0;
+    let mut n = 0;
+    loop {
+        let found = read_call(input, at);
+        match found {
+            Found::Whole(_, next) => {
+                at = next;
+                n += 1;
+            }
+            Found::End => {
+                return n;
+            }
+            Found::CutShort => {
+                return n;
+            }
+            Found::Malformed => {
+                return n;
+            }
+        }
+    }
+}
+
+// A whole file.
+pub fn run_file(m: Monitor, input: &[u8], answers: &mut [i64]) -> FileRan
+    ensures { λ r. ⌜ passed (r .monitor) (r .code) (r .calls) (r .used) (now (answers .exit)) ≡ fileOf m (now (input .entry)) (now (answers .entry)) ⌝ }
+{
+    let whole = count_calls(input);
+    if answers.len() / 6 < whole {
+        return FileRan {
+            monitor: m,
+            code: 16,
+            calls: 0,
+            used: 0,
+        };
+    }
+    run_piece(m, input, true, answers)
+}
+
+// What writing a file tells.
+pub enum Written {
+    // the place after the last byte written
+    Next(usize),
+    // too little room at the place, and nothing is written
+    NoRoom,
+    // the list ends inside a call, and nothing is written
+    Unfinished,
+}
+
+// Is there room for the numbers from a place on?
+fn fits(numbers: &[u32], room: usize) -> bool
+    ensures { λ r. ⌜ r ≡ leb (length (fileBytes (now (numbers .entry)))) room ⌝ }
+{
+    let mut left = room;
+    let mut i = 0;
+    while i < numbers.len() {
+        let needed = number::size(numbers[i]);
+        if left < needed {
+            return false;
+        }
+        left = left - needed;
+        i += 1;
+    }
+    true
+}
+
+// The numbers from a place on; the answer is the place after them.
+fn write_numbers(buffer: &mut [u8], place: usize, numbers: &[u32]) -> usize
+    requires { ⌜ place + length (fileBytes (now numbers)) ≤ length (now buffer) ⌝ }
+    ensures next { λ r. ⌜ r ≡ place + length (fileBytes (now (numbers .entry))) ⌝ }
+    ensures bytes { λ _. ⌜ now (buffer .exit) ≡ sets (now (buffer .entry)) place (fileBytes (now (numbers .entry))) ⌝ }
+{
+    let mut at = place;
+    let mut i = 0;
+    while i < numbers.len() {
+        let wrote = number::encode(&mut *buffer, at, numbers[i]);
+        match wrote {
+            Encoded::Next(next) => {
+                at = next;
+                i += 1;
+            }
+            Encoded::NoRoom => {
+                return at;
+            }
+        }
+    }
+    at
+}
+
+// A list of calls, six numbers to a call, put into the buffer at a place. Where it is refused the buffer stays as it was.
+pub fn write_calls(buffer: &mut [u8], place: usize, calls: &[u32]) -> Written
+    ensures answer { λ r. ⌜ written r ≡ writeAnswer (now (buffer .entry)) place (now (calls .entry)) ⌝ }
+    ensures bytes { λ _. ⌜ now (buffer .exit) ≡ writeBuffer (now (buffer .entry)) place (now (calls .entry)) ⌝ }
+{
+    if calls.len() % 6 != 0 {
+        return Written::Unfinished;
+    }
+    if buffer.len() < place {
+        return Written::NoRoom;
+    }
+    let room = buffer.len() - place;
+    let enough = fits(calls, room);
+    if !enough {
+        return Written::NoRoom;
+    }
+    let next = write_numbers(buffer, place, calls);
+    Written::Next(next)
+}
