@@ -1,0 +1,140 @@
+// A drill file from a descriptor, its answers in lines to standard output.
+
+ghost use mathlib.Core.Path.{_≡_};
+ghost use Prim.Native.Nat.{_-_, _≤_};
+ghost use lib.ListN.{length, take, drop};
+use libc::STDOUT_FILENO;
+use rules::Monitor;
+
+// What waits in the input's buffer: how many bytes, whether the input ended there, and whether it could be read.
+struct Waiting {
+    count: usize,
+    ended: bool,
+    failed: bool,
+}
+
+// Reads once, past the bytes that wait, unless the input has ended.
+fn receive(fd: i32, input: &mut [u8], count: usize, ended: bool) -> Waiting
+    requires { ⌜ count ≤ length (now input) ⌝ }
+    ensures { λ r. ⌜ r .count ≤ length (now (input .entry)) ⌝ }
+{
+    if ended {
+        return Waiting {
+            count,
+            ended: true,
+            failed: false,
+        };
+    }
+    let got = libc::read(fd, &mut input[count..]);
+    if got < 0 {
+        return Waiting {
+            count,
+            ended: true,
+            failed: true,
+        };
+    }
+    if got == 0 {
+        return Waiting {
+            count,
+            ended: true,
+            failed: false,
+        };
+    }
+    let more = io::count(got, &input[count..]);
+    Waiting {
+        count: count + more,
+        ended: false,
+        failed: false,
+    }
+}
+
+// Moves the bytes from `used` up to `count` to the front, and tells how many they are.
+fn keep_rest(buffer: &mut [u8], used: usize, count: usize) -> usize
+    requires { ⌜ count ≤ length (now buffer) ⌝ }
+    ensures { λ r. ⌜ r ≡ count - used ⌝ }
+    ensures { λ r. ⌜ take r (now (buffer .exit)) ≡ take r (drop used (now (buffer .entry))) ⌝ }
+{
+    if count <= used {
+        return 0;
+    }
+    let rest = count - used;
+    let mut i = 0;
+    while i < rest {
+        buffer[i] = buffer[used + i];
+        i += 1;
+    }
+    rest
+}
+
+// Between two turns: the record, what waits, and whether to go on.
+struct State {
+    monitor: Monitor,
+    count: usize,
+    ended: bool,
+    more: bool,
+}
+
+// One turn: reads, runs the calls that are whole, writes their lines, keeps what is left.
+fn turn(fd: i32, s: State, input: &mut [u8], answers: &mut [i64], output: &mut [u8]) -> State
+    requires { ⌜ s .count ≤ length (now input) ⌝ }
+    ensures { λ r. ⌜ r .count ≤ length (now (input .entry)) ⌝ }
+{
+    let before = s.monitor;
+    let waiting = receive(fd, &mut *input, s.count, s.ended);
+    let count = waiting.count;
+    let ended = waiting.ended;
+    if waiting.failed {
+        return State {
+            monitor: before,
+            count: 0,
+            ended,
+            more: false,
+        };
+    }
+    let listed = listing::list_piece(before, &input[..count], ended, &mut *answers, &mut *output);
+    let written = listed.written;
+    let used = listed.used;
+    let code = listed.code;
+    let after = listed.monitor;
+    let ok = io::write_all(STDOUT_FILENO, &output[..written]);
+    let kept = keep_rest(&mut *input, used, count);
+    let done = ended & (kept == 0);
+    let more = ok & (code == 0) & !done;
+    State {
+        monitor: after,
+        count: kept,
+        ended,
+        more,
+    }
+}
+
+// Places for 496 answers, whose lines fit into 65,536 bytes.
+fn answer_places() -> [i64; 2976]
+    ensures { λ r. ⌜ 2976 ≡ length r ⌝ }
+{
+    [0; 2976]
+}
+
+// Lists the drill file that a descriptor reads, up to its end, a bad number or a failure.
+pub fn list_all(fd: i32) {
+    let mut read = io::large_buffer();
+    let input: &mut [u8] = &mut read;
+    let mut said = answer_places();
+    let answers: &mut [i64] = &mut said;
+    let mut text = io::large_buffer();
+    let output: &mut [u8] = &mut text;
+    let mut s = State {
+        monitor: Monitor::fresh(),
+        count: 0,
+        ended: false,
+        more: true,
+    };
+    let mut turns: u64 = 18446744073709551615;
+    while 0 < turns {
+        s = turn(fd, s, &mut *input, &mut *answers, &mut *output);
+        if !s.more {
+            return;
+        }
+        turns -= 1;
+    }
+}

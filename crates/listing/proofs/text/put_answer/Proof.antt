@@ -1,0 +1,35 @@
+-- `listing::text::put_answer` meets its contract.
+-- Assumes nothing.
+use Prim.Native.Nat.{_-_}
+use mathlib.Core.Path.{_≡_}
+use borrow.Author.Needs.{needs}
+use lib.ListN.{getD}
+use lib.IntN.{pos}
+use mir.Syntax.{w64}
+use mir.Val.{toZ, ofZ}
+use Rattle.listing.proofs.text.put_answer.Statement.{statement}
+use Rattle.listing.proofs.text.put_answer.Tie as tie
+
+mul-put-field : tie.Need-mul-put-field
+mul-put-field c = search needs
+
+shared-slice-copy-out-put-field : tie.Need-shared-slice-copy-out-put-field
+shared-slice-copy-out-put-field c = search needs
+
+put-field-requires : tie.Need-put-field-requires
+put-field-requires c κs = search needs
+
+same-length : tie.Need-same-length
+same-length c = search needs
+
+returns : tie.Need-returns
+returns c =
+    let a = c .before .before .before .before .before .before .args in
+    let r = c .before .before .put-field .ensures in
+    let e : toZ w64 (ofZ w64 (getD (a .answers .now) (a .place) (pos 0))) ≡ getD (a .answers .now) (a .place) (pos 0) = search needs in
+    rw (← e) r
+
+pub put-answer-spec : {M : Type 1} → statement M
+put-answer-spec =
+    tie.close
+    (tie.spec mul-put-field shared-slice-copy-out-put-field put-field-requires same-length returns)
