@@ -1,0 +1,19 @@
+// Lends the monitor records that are broken in each way that soundness names, and sound ones at the borders: a line each.
+mod alike;
+mod links;
+mod parties;
+mod records;
+mod show;
+
+fn main() {
+    links::counts();
+    links::numbers();
+    links::ranges();
+    links::choices();
+    parties::choices();
+    parties::served();
+    records::sound();
+    links::sound();
+    parties::sound();
+    show::lists();
+}

@@ -1,0 +1,105 @@
+// What the monitor answers on a record, in a line.
+use super::alike::same;
+use super::records::base;
+use libc::STDOUT_FILENO;
+use rules::Call;
+use rules::Monitor;
+
+// One call: at clock 7 party 0 asks for the transaction information.
+const CALLS: [u32; 6] = [7, 0, 6, 0, 0, 0];
+
+fn write(text: &[u8]) {
+    io::write_all(STDOUT_FILENO, text);
+}
+
+// A code, or what stands in an answer place.
+fn show_code(code: i64) {
+    match code {
+        -5 => write(b"-5"),
+        0 => write(b"0"),
+        1 => write(b"1"),
+        16 => write(b"16"),
+        17 => write(b"17"),
+        19 => write(b"19"),
+        20 => write(b"20"),
+        77 => write(b"77"),
+        _ => write(b"another"),
+    }
+}
+
+fn show_kept(kept: bool) {
+    if kept {
+        write(b" kept");
+    } else {
+        write(b" changed");
+    }
+}
+
+// A single call of a kind.
+fn show_step(m: Monitor, kind: u32) {
+    let call = Call {
+        clock: 7,
+        party: 0,
+        kind,
+        a: 0,
+        b: 0,
+        c: 0,
+    };
+    let s = monitor::step(m, call);
+    let r = s.answer;
+    let n = s.monitor;
+    let kept = same(m, n);
+    show_code(r.code);
+    show_kept(kept);
+}
+
+// A list, and the first of its answer places, which hold 77 before.
+fn show_list(m: Monitor, calls: &[u32]) {
+    let mut answers = [77i64; 6];
+    let ran = monitor::run_list(m, calls, &mut answers);
+    let n = ran.monitor;
+    let kept = same(m, n);
+    show_code(ran.code);
+    show_kept(kept);
+    write(b" answer ");
+    show_code(answers[0]);
+}
+
+pub fn show(name: &[u8], m: Monitor) {
+    let calls = CALLS;
+    write(name);
+    write(b": step ");
+    show_step(m, 6);
+    write(b", kind 22 ");
+    show_step(m, 22);
+    write(b", list ");
+    show_list(m, &calls);
+    write(b", empty list ");
+    show_list(m, &calls[..0]);
+    write(b"\n");
+}
+
+// A list that has too few answer places.
+fn show_short(name: &[u8], m: Monitor, calls: &[u32]) {
+    let mut answers = [77i64; 5];
+    let ran = monitor::run_list(m, calls, &mut answers);
+    let n = ran.monitor;
+    let kept = same(m, n);
+    write(name);
+    show_code(ran.code);
+    show_kept(kept);
+    write(b" answer ");
+    show_code(answers[0]);
+    write(b"\n");
+}
+
+// What is asked of a list comes before soundness.
+pub fn lists() {
+    let calls = CALLS;
+    let mut m = base();
+    show_short(b"sound, five numbers and five places: ", m, &calls[..5]);
+    show_short(b"sound, six numbers and five places: ", m, &calls);
+    m.count = 33;
+    show_short(b"33 links, five numbers and five places: ", m, &calls[..5]);
+    show_short(b"33 links, six numbers and five places: ", m, &calls);
+}

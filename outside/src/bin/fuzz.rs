@@ -1,0 +1,431 @@
+//! fuzz SEED COUNT: about COUNT random calls in many histories from fresh
+//! monitors, through `step` and through the history statement.
+//!
+//! Also asked: a step keeps a record sound; a refusal changes nothing but the
+//! clock (and up to question 21 nothing at all) and has zeros beside its number
+//! and T; a list does what its calls do; a drill file is read as written; and
+//! the same on records no list reaches, made by changing fields at random.
+
+use outside::drill;
+use outside::generator::{self, Generator, Rng};
+use outside::history::{self, Entry};
+use outside::monitor::{
+    equal, equal_with_tokens, run_list, step, Cut, End, Kind, Link, Monitor, State, LAST_NUMBER,
+    LINKS, PARTIES,
+};
+use std::process::ExitCode;
+
+/// What came, to see that deep states did.
+#[derive(Default, Debug)]
+struct Tally {
+    histories: u64,
+    calls: u64,
+    commits: u64,
+    committed: u64,
+    committed_with_links: u64,
+    committed_with_others_links: u64,
+    rolled_back: u64,
+    only_failed_end: u64,
+    /// A disconnected link is unfinished for good, so both come together.
+    disconnect_and_unfinished: u64,
+    only_deadline: u64,
+    only_unfinished: u64,
+    most_links_of_one_commit: usize,
+    most_turns_on_a_link: u64,
+    deepest_nesting: u64,
+    full_links: u64,
+    sound_changed_records: u64,
+    unsound_records: u64,
+}
+
+/// Soundness once more, word for word from the document.
+fn literally_sound(m: &Monitor) -> bool {
+    if m.link_count > 32 {
+        return false;
+    }
+    let links = &m.links[..m.link_count];
+    let rising = links.windows(2).all(|pair| pair[0].number < pair[1].number);
+    let in_range = links
+        .iter()
+        .all(|l| l.number >= 1 && l.number <= m.last_link);
+    let last_numbers = m.last_link <= 60_000 && m.last_transaction <= 60_000;
+    let parties = links.iter().all(|l| l.originator <= 15 && l.server <= 15);
+    let unread = links.iter().all(|l| l.unread_count <= 4);
+    let choices = links.iter().all(|l| [0, 2, 4, 8].contains(&l.outcome))
+        && m.parties.iter().all(|p| [0, 1].contains(&p.control));
+    let returned = links
+        .iter()
+        .all(|l| l.state != State::Returned || l.outcome != 0);
+    let served = m.parties.iter().enumerate().all(|(p, party)| {
+        let names = |l: &Link| {
+            l.number == party.served && l.state == State::Working && usize::from(l.server) == p
+        };
+        party.served == 0 || links.iter().any(names)
+    });
+    rising && in_range && last_numbers && parties && unread && choices && returned && served
+}
+
+/// A record compared bit by bit, sound or not.
+fn same(one: &Monitor, two: &Monitor) -> bool {
+    format!("{one:?}") == format!("{two:?}")
+}
+
+/// Asks what must hold of one step, whatever the record.
+fn check_step(
+    before: &Monitor,
+    after: &Monitor,
+    call: [u32; 6],
+    answer: [i64; 6],
+) -> Result<(), String> {
+    let fail = |what: &str| {
+        Err(format!(
+            "{what}: call {call:?} answer {answer:?} before {before:?} after {after:?}"
+        ))
+    };
+    for m in [before, after] {
+        if m.is_sound() != literally_sound(m) {
+            return fail("soundness misjudged");
+        }
+    }
+    if !before.is_sound() {
+        return if answer == [19, 0, 0, 0, 0, 0] && same(before, after) {
+            Ok(())
+        } else {
+            fail("unsound")
+        };
+    }
+    if !after.is_sound() {
+        return fail("soundness lost");
+    }
+    let [code, value, event, token, service, t] = answer;
+    let malformed = matches!(code, 19..=21);
+    let clock = if malformed {
+        before.clock
+    } else {
+        before.clock.max(call[0])
+    };
+    if after.clock != clock {
+        return fail("clock");
+    }
+    if history::is_refusal(code) {
+        let mut expected = before.clone();
+        expected.clock = clock;
+        if !equal_with_tokens(&expected, after) {
+            return fail("a refusal changed something");
+        }
+        if [value, event, token, service] != [0; 4] {
+            return fail("a refusal with something beside");
+        }
+    }
+    let own = if malformed {
+        0
+    } else {
+        i64::from(after.transaction(call[1] as usize))
+    };
+    if t != own {
+        return fail("last field");
+    }
+    Ok(())
+}
+
+/// Adds to the tally from a history's commits and turns.
+fn tally_history(entries: &[Entry], from: usize, tally: &mut Tally) {
+    let mut turns = std::collections::HashMap::new();
+    for at in from..entries.len() {
+        let (call, answer) = entries[at];
+        if call[2] == 18 && answer[0] == 29 && answer[2] == 32 {
+            let turns = turns.entry(call[3]).or_insert(0);
+            *turns += 1;
+            tally.most_turns_on_a_link = tally.most_turns_on_a_link.max(*turns);
+        }
+        let Some(commit) = history::commit(entries, at) else {
+            continue;
+        };
+        tally.commits += 1;
+        tally.most_links_of_one_commit = tally.most_links_of_one_commit.max(commit.links.len());
+        if commit.committed {
+            tally.committed += 1;
+            tally.committed_with_links += u64::from(!commit.links.is_empty());
+            let others = commit
+                .links
+                .iter()
+                .any(|&(_, originator)| originator != call[1]);
+            tally.committed_with_others_links += u64::from(others);
+            continue;
+        }
+        tally.rolled_back += 1;
+        match (
+            commit.failed_end,
+            commit.disconnect,
+            commit.passed_deadline,
+            commit.unfinished,
+        ) {
+            (true, false, false, false) => tally.only_failed_end += 1,
+            (false, true, false, true) => tally.disconnect_and_unfinished += 1,
+            (false, false, true, false) => tally.only_deadline += 1,
+            (false, false, false, true) => tally.only_unfinished += 1,
+            _ => {}
+        }
+    }
+}
+
+/// How deep services are nested: a served link whose originator serves, too.
+fn nesting(m: &Monitor) -> u64 {
+    (0..PARTIES)
+        .map(|mut p| {
+            let mut depth = 0;
+            // Links whose originator's end is closed do not count.
+            while let Some(l) = m
+                .links()
+                .iter()
+                .find(|l| l.open && l.number == m.parties[p].served)
+            {
+                depth += 1;
+                p = usize::from(l.originator);
+            }
+            depth
+        })
+        .max()
+        .unwrap_or(0)
+}
+
+/// Checks a whole history: the statement from place `from` on, list, file.
+fn check_history(
+    entries: &[Entry],
+    from: usize,
+    last: &Monitor,
+    rng: &mut Rng,
+) -> Result<(), String> {
+    if let Some(broken) = history::check_from(entries, from) {
+        return Err(format!("history: {broken:?} in {entries:?}"));
+    }
+    if let Some(broken) = history::check_refusals(entries) {
+        return Err(format!("history: {broken:?} in {entries:?}"));
+    }
+    // The same calls as lent lists, cut anywhere, and as a drill file.
+    let mut m = Monitor::fresh();
+    let mut rest = entries;
+    while !rest.is_empty() {
+        let (part, later) = rest.split_at(1 + rng.below(rest.len() as u32) as usize);
+        rest = later;
+        let calls: Vec<u32> = part.iter().flat_map(|entry| entry.0).collect();
+        let mut answers = vec![77i64; calls.len() + 3];
+        let expected: Vec<i64> = part
+            .iter()
+            .flat_map(|entry| entry.1)
+            .chain([77; 3])
+            .collect();
+        if run_list(&mut m, &calls, &mut answers) != 0 || answers != expected {
+            return Err("a list is not its calls".into());
+        }
+    }
+    if !equal_with_tokens(&m, last) || !equal(&m, last) {
+        return Err("a list leaves another monitor".into());
+    }
+    let mut file = Vec::new();
+    let mut lines = Vec::new();
+    let mut expected = Vec::new();
+    for (call, answer) in entries {
+        drill::push_call(call, &mut file);
+        drill::push_answer(answer, &mut expected);
+    }
+    drill::run(&file[..], &mut lines).map_err(|e| e.to_string())?;
+    if lines != expected {
+        return Err("a drill file is not its calls".into());
+    }
+    Ok(())
+}
+
+/// Changes a field at random, mostly so that the record may stay sound.
+fn change(m: &mut Monitor, rng: &mut Rng) {
+    let wild = rng.once_in(12);
+    let number = |rng: &mut Rng, near: u32| {
+        if wild {
+            rng.next_u32()
+        } else {
+            rng.below(near.saturating_add(2))
+        }
+    };
+    let (last_link, last_transaction) = (m.last_link, m.last_transaction);
+    match rng.below(24) {
+        0 => m.clock = number(rng, 100),
+        1 => {
+            m.last_link = if wild {
+                LAST_NUMBER + rng.below(2)
+            } else {
+                m.last_link.min(LAST_NUMBER - 1) + 1
+            }
+        }
+        2 => {
+            m.last_transaction = if wild {
+                LAST_NUMBER + rng.below(2)
+            } else {
+                m.last_transaction
+            }
+        }
+        3 => {
+            m.link_count = if wild {
+                LINKS + 1
+            } else {
+                m.link_count.saturating_sub(1)
+            }
+        }
+        4..=11 => {
+            let p = rng.below(PARTIES as u32) as usize;
+            let link = if m.link_count > 0 && m.link_count <= LINKS {
+                m.links()[rng.below(m.link_count as u32) as usize].number
+            } else {
+                1
+            };
+            let party = &mut m.parties[p];
+            match rng.below(8) {
+                0 => party.opened = !party.opened,
+                1 => party.control = rng.below(if wild { 4 } else { 2 }) as u8,
+                2 => party.timeout = number(rng, 5),
+                3 => party.services = u64::from(rng.next_u32()) << 32 | u64::from(rng.next_u32()),
+                4 => party.owned = number(rng, last_transaction),
+                5 => party.deadline = u64::from(number(rng, 100)),
+                6 => party.doomed = !party.doomed,
+                _ => party.served = if rng.once_in(2) { 0 } else { link },
+            }
+        }
+        _ if m.link_count == 0 || m.link_count > LINKS => {
+            m.link_count = 1;
+            m.links[0] = Link {
+                number: last_link,
+                ..Link::fresh()
+            };
+        }
+        _ => {
+            let i = rng.below(m.link_count as u32) as usize;
+            let link = &mut m.links[i];
+            match rng.below(16) {
+                0 => link.number = number(rng, last_link),
+                1 => link.kind = rng.pick(&[Kind::Request, Kind::Conversation]),
+                2 => link.originator = rng.below(if wild { 20 } else { 16 }) as u8,
+                3 => link.open = !link.open,
+                4 => link.service = number(rng, 64),
+                5 => link.transaction = number(rng, last_transaction),
+                6 => link.state = rng.pick(&[State::Waiting, State::Working, State::Returned]),
+                7 => link.server = rng.below(if wild { 20 } else { 16 }) as u8,
+                8 => link.first_token = rng.next_u32(),
+                9 | 10 => {
+                    link.outcome = if wild {
+                        rng.below(10) as u8
+                    } else {
+                        rng.pick(&[0, 2, 4, 8])
+                    }
+                }
+                11 => link.ending_token = rng.next_u32(),
+                12 => link.holder = rng.pick(&[End::Originator, End::Server]),
+                13 => link.handing_over = !link.handing_over,
+                14 => link.cut = rng.pick(&[Cut::No, Cut::Cut, Cut::Told]),
+                _ => link.unread_count = rng.below(if wild { 7 } else { 5 }) as u8,
+            }
+        }
+    }
+}
+
+/// Changes a record and asks what must hold of steps from it.
+fn check_changed(
+    from: &Monitor,
+    generator: &mut Generator,
+    rng: &mut Rng,
+    tally: &mut Tally,
+) -> Result<(), String> {
+    let mut m = from.clone();
+    for _ in 0..1 + rng.below(4) {
+        // Mostly only changes that keep it sound.
+        let kept = m.clone();
+        change(&mut m, rng);
+        if !m.is_sound() && !rng.once_in(6) {
+            m = kept;
+        }
+    }
+    let sound = m.is_sound();
+    if sound {
+        tally.sound_changed_records += 1;
+    } else {
+        tally.unsound_records += 1;
+        let before = m.clone();
+        let mut answers = [77; 12];
+        let code = run_list(&mut m, &[0; 12], &mut answers);
+        let empty = run_list(&mut m, &[], &mut answers);
+        let unequal = !equal(&m, &before) && !equal(&before, from);
+        if (code, empty, answers) != (19, 19, [77; 12]) || !same(&before, &m) || !unequal {
+            return Err(format!("a list on an unsound record: {before:?}"));
+        }
+    }
+    for _ in 0..6 {
+        let before = m.clone();
+        let call = generator.next_call(if sound { &m } else { from });
+        let answer = step(&mut m, call);
+        check_step(&before, &m, call, answer)?;
+    }
+    Ok(())
+}
+
+fn fuzz(seed: u64, count: u64, tally: &mut Tally) -> Result<(), String> {
+    let mut rng = Rng::new(seed ^ 0x5EED);
+    // One history that spends the numbers; the statement is asked at its end.
+    let mut entries = Vec::new();
+    let mut last = Monitor::fresh();
+    generator::spent(seed, &mut |m, call, answer| {
+        entries.push((call, answer));
+        last = m.clone();
+    });
+    let from = entries.len() - 2500;
+    check_history(&entries, from, &last, &mut rng)?;
+    tally_history(&entries, from, tally);
+    tally.histories += 1;
+    tally.calls += entries.len() as u64;
+
+    while tally.calls < count {
+        let mut generator =
+            Generator::new(seed.wrapping_mul(1 << 32).wrapping_add(tally.histories));
+        let length = rng.pick(&[30, 100, 300, 300, 600, 1200]);
+        let mut m = Monitor::fresh();
+        let mut entries = Vec::with_capacity(length);
+        for _ in 0..length {
+            let call = generator.next_call(&m);
+            let before = m.clone();
+            let answer = step(&mut m, call);
+            check_step(&before, &m, call, answer)?;
+            entries.push((call, answer));
+            tally.deepest_nesting = tally.deepest_nesting.max(nesting(&m));
+            tally.full_links += u64::from(m.link_count == LINKS);
+            if rng.once_in(20) {
+                check_changed(&m, &mut generator, &mut rng, tally)?;
+            }
+        }
+        check_history(&entries, 0, &m, &mut rng)?;
+        tally_history(&entries, 0, tally);
+        tally.histories += 1;
+        tally.calls += length as u64;
+    }
+    Ok(())
+}
+
+fn main() -> ExitCode {
+    let words: Vec<u64> = std::env::args()
+        .skip(1)
+        .filter_map(|word| word.parse().ok())
+        .collect();
+    let [seed, count] = words[..] else {
+        eprintln!("fuzz SEED COUNT");
+        return ExitCode::FAILURE;
+    };
+    let mut tally = Tally::default();
+    let result = fuzz(seed, count, &mut tally);
+    println!("{tally:#?}");
+    match result {
+        Ok(()) => {
+            println!("no violation");
+            ExitCode::SUCCESS
+        }
+        Err(what) => {
+            println!("VIOLATION {what}");
+            ExitCode::FAILURE
+        }
+    }
+}

@@ -1,0 +1,1183 @@
+//! The monitor's record, its soundness, and the step of one call.
+
+/// How many parties share a monitor.
+pub const PARTIES: usize = 16;
+/// How many links there are at once.
+pub const LINKS: usize = 32;
+/// How many tokens wait unread on a link.
+pub const UNREAD: usize = 4;
+/// The last link or transaction number ever given.
+pub const LAST_NUMBER: u32 = 60_000;
+/// How many services a party offers at once.
+pub const OFFERED: u32 = 8;
+/// The longest timeout.
+pub const LONGEST_TIMEOUT: u32 = 2_147_483_647;
+
+/// Outcomes of a service.
+pub const SUCCESS: u8 = 8;
+pub const FAIL: u8 = 4;
+pub const ERROR: u8 = 2;
+
+#[derive(Clone, Copy, Debug, PartialEq, Eq)]
+pub enum Kind {
+    Request,
+    Conversation,
+}
+
+#[derive(Clone, Copy, Debug, PartialEq, Eq)]
+pub enum State {
+    Waiting,
+    Working,
+    Returned,
+}
+
+#[derive(Clone, Copy, Debug, PartialEq, Eq)]
+pub enum End {
+    Originator,
+    Server,
+}
+
+#[derive(Clone, Copy, Debug, PartialEq, Eq)]
+pub enum Cut {
+    No,
+    Cut,
+    Told,
+}
+
+#[derive(Clone, Copy, Debug, PartialEq, Eq)]
+pub struct Party {
+    /// Services 1 to 64, service s at bit s - 1.
+    pub services: u64,
+    /// Deadline of the owned transaction, 0 none.
+    pub deadline: u64,
+    /// Seconds, 0 none.
+    pub timeout: u32,
+    /// Owned transaction, 0 none.
+    pub owned: u32,
+    /// Served link, 0 none.
+    pub served: u32,
+    pub opened: bool,
+    /// 0 unchained, 1 chained.
+    pub control: u8,
+    pub doomed: bool,
+}
+
+impl Party {
+    pub const fn fresh() -> Self {
+        Party {
+            services: 0,
+            deadline: 0,
+            timeout: 0,
+            owned: 0,
+            served: 0,
+            opened: false,
+            control: 0,
+            doomed: false,
+        }
+    }
+
+    fn offers(&self, service: u32) -> bool {
+        (1..=64).contains(&service) && self.services >> (service - 1) & 1 == 1
+    }
+}
+
+#[derive(Clone, Copy, Debug)]
+pub struct Link {
+    pub number: u32,
+    pub service: u32,
+    /// Its transaction, 0 none.
+    pub transaction: u32,
+    pub first_token: u32,
+    pub ending_token: u32,
+    /// The first `unread_count` places hold the unread tokens, oldest first.
+    pub unread: [u32; UNREAD],
+    pub unread_count: u8,
+    pub kind: Kind,
+    pub originator: u8,
+    /// Whether the originator's end is open.
+    pub open: bool,
+    pub state: State,
+    pub server: u8,
+    /// 8, 4 or 2; 0 before a return.
+    pub outcome: u8,
+    pub holder: End,
+    pub handing_over: bool,
+    pub cut: Cut,
+}
+
+impl Link {
+    pub const fn fresh() -> Self {
+        Link {
+            number: 0,
+            service: 0,
+            transaction: 0,
+            first_token: 0,
+            ending_token: 0,
+            unread: [0; UNREAD],
+            unread_count: 0,
+            kind: Kind::Request,
+            originator: 0,
+            open: false,
+            state: State::Waiting,
+            server: 0,
+            outcome: 0,
+            holder: End::Originator,
+            handing_over: false,
+            cut: Cut::No,
+        }
+    }
+
+    /// The open originator's end of `party`.
+    fn is_open_end_of(&self, party: usize) -> bool {
+        self.open && usize::from(self.originator) == party
+    }
+
+    /// The server holds the conversation and is not handing it over.
+    fn server_is_free_holder(&self) -> bool {
+        self.holder == End::Server && !self.handing_over
+    }
+
+    /// Dropping unread clears the handing-over mark too.
+    fn drop_unread(&mut self) {
+        self.unread_count = 0;
+        self.handing_over = false;
+    }
+
+    /// Cut: the originator's end closed, unread dropped.
+    fn cut_off(&mut self) {
+        self.cut = Cut::Cut;
+        self.open = false;
+        self.drop_unread();
+    }
+
+    fn push_unread(&mut self, token: u32) {
+        self.unread[usize::from(self.unread_count)] = token;
+        self.unread_count += 1;
+    }
+
+    fn pop_unread(&mut self) -> u32 {
+        let token = self.unread[0];
+        self.unread.copy_within(1.., 0);
+        self.unread_count -= 1;
+        token
+    }
+
+    /// All fields but unread, which is left out.
+    fn same_but_unread(&self, other: &Link) -> bool {
+        self.number == other.number
+            && self.service == other.service
+            && self.transaction == other.transaction
+            && self.first_token == other.first_token
+            && self.ending_token == other.ending_token
+            && self.kind == other.kind
+            && self.originator == other.originator
+            && self.open == other.open
+            && self.state == other.state
+            && self.server == other.server
+            && self.outcome == other.outcome
+            && self.holder == other.holder
+            && self.handing_over == other.handing_over
+            && self.cut == other.cut
+    }
+}
+
+#[derive(Clone, Debug)]
+pub struct Monitor {
+    pub clock: u32,
+    pub last_link: u32,
+    pub last_transaction: u32,
+    pub parties: [Party; PARTIES],
+    /// The first `link_count` places hold the links, in rising number.
+    pub links: [Link; LINKS],
+    pub link_count: usize,
+}
+
+/// The first five fields of the answer to an accepted call.
+#[derive(Default)]
+struct Reply {
+    code: i64,
+    value: u32,
+    event: u32,
+    token: u32,
+    service: u32,
+}
+
+impl Reply {
+    fn code(code: i64) -> Self {
+        Reply {
+            code,
+            ..Reply::default()
+        }
+    }
+
+    fn value(value: u32) -> Self {
+        Reply {
+            value,
+            ..Reply::default()
+        }
+    }
+}
+
+/// What a kind decides: a reply, or a refusal by number.
+type Decision = Result<Reply, i64>;
+
+/// Asks a question: "no" gives the number.
+fn ask(yes: bool, number: i64) -> Result<(), i64> {
+    if yes {
+        Ok(())
+    } else {
+        Err(number)
+    }
+}
+
+/// A blank of the state table.
+const NONE: u8 = u8::MAX;
+
+/// Next states of the TX kinds 1 to 9 (rows) in S0 to S4. The row of kind 8
+/// is the one for an unchanged control.
+const NEXT_STATE: [[u8; 5]; 9] = [
+    [1, 1, 2, 3, 4],
+    [0, 0, 0, NONE, NONE],
+    [NONE, 3, 4, NONE, NONE],
+    [NONE, NONE, NONE, 1, 4],
+    [NONE, NONE, NONE, 1, 4],
+    [NONE, 1, 2, 3, 4],
+    [NONE, 1, 2, 3, 4],
+    [NONE, 1, 2, 3, 4],
+    [NONE, 1, 2, 3, 4],
+];
+
+impl Default for Monitor {
+    fn default() -> Self {
+        Monitor::fresh()
+    }
+}
+
+impl Monitor {
+    pub const fn fresh() -> Self {
+        Monitor {
+            clock: 0,
+            last_link: 0,
+            last_transaction: 0,
+            parties: [Party::fresh(); PARTIES],
+            links: [Link::fresh(); LINKS],
+            link_count: 0,
+        }
+    }
+
+    /// The links there are. For records whose count is in range.
+    pub fn links(&self) -> &[Link] {
+        &self.links[..self.link_count]
+    }
+
+    pub fn is_sound(&self) -> bool {
+        if self.link_count > LINKS
+            || self.last_link > LAST_NUMBER
+            || self.last_transaction > LAST_NUMBER
+        {
+            return false;
+        }
+        // Each party with a served number needs its working link; numbers differ,
+        // so it is enough to count both.
+        let mut served_links = 0;
+        let mut before = 0;
+        for link in self.links() {
+            let Some(server) = self.parties.get(usize::from(link.server)) else {
+                return false;
+            };
+            if link.number <= before
+                || usize::from(link.originator) >= PARTIES
+                || usize::from(link.unread_count) > UNREAD
+                || !matches!(link.outcome, 0 | ERROR | FAIL | SUCCESS)
+                || (link.state == State::Returned && link.outcome == 0)
+            {
+                return false;
+            }
+            before = link.number;
+            served_links +=
+                usize::from((link.state == State::Working) & (server.served == link.number));
+        }
+        before <= self.last_link
+            && self.parties.iter().all(|party| party.control <= 1)
+            && self
+                .parties
+                .iter()
+                .filter(|party| party.served != 0)
+                .count()
+                == served_links
+    }
+
+    /// The place of a link.
+    fn find(&self, number: u32) -> Option<usize> {
+        self.links()
+            .binary_search_by_key(&number, |link| link.number)
+            .ok()
+    }
+
+    /// A party's transaction: the owned one, else its served link's; 0 none.
+    pub fn transaction(&self, party: usize) -> u32 {
+        let Party { owned, served, .. } = self.parties[party];
+        if owned != 0 || served == 0 {
+            return owned;
+        }
+        self.find(served).map_or(0, |i| self.links[i].transaction)
+    }
+
+    /// The owner of a transaction: the lowest party that owns it.
+    pub fn owner(&self, transaction: u32) -> Option<usize> {
+        if transaction == 0 {
+            return None;
+        }
+        self.parties
+            .iter()
+            .position(|party| party.owned == transaction)
+    }
+
+    fn is_ended(&self, transaction: u32) -> bool {
+        transaction != 0 && self.owner(transaction).is_none()
+    }
+
+    fn is_expired(&self, transaction: u32) -> bool {
+        self.owner(transaction).is_some_and(|owner| {
+            let deadline = self.parties[owner].deadline;
+            deadline != 0 && u64::from(self.clock) >= deadline
+        })
+    }
+
+    /// S0 to S4.
+    fn tx_state(&self, party: usize) -> usize {
+        let Party {
+            opened, control, ..
+        } = self.parties[party];
+        match (opened, self.transaction(party) != 0) {
+            (false, _) => 0,
+            (true, false) => 1 + usize::from(control),
+            (true, true) => 3 + usize::from(control),
+        }
+    }
+
+    fn has_open_end(&self, party: usize) -> bool {
+        self.links().iter().any(|link| link.is_open_end_of(party))
+    }
+
+    fn remove_link(&mut self, place: usize) {
+        self.links.copy_within(place + 1..self.link_count, place);
+        self.link_count -= 1;
+    }
+
+    /// Keeps the links for which `keep` says so; it may change them.
+    fn retain_links(&mut self, mut keep: impl FnMut(&mut Link) -> bool) {
+        let mut kept = 0;
+        for i in 0..self.link_count {
+            if keep(&mut self.links[i]) {
+                if kept != i {
+                    self.links[kept] = self.links[i];
+                }
+                kept += 1;
+            }
+        }
+        self.link_count = kept;
+    }
+
+    /// Dooms a transaction if it is live.
+    fn doom(&mut self, transaction: u32) {
+        if let Some(owner) = self.owner(transaction) {
+            self.parties[owner].doomed = true;
+        }
+    }
+
+    /// Begins a transaction; false if the numbers are spent.
+    fn begin_transaction(&mut self, party: usize) -> bool {
+        if self.last_transaction >= LAST_NUMBER {
+            return false;
+        }
+        self.last_transaction += 1;
+        let party = &mut self.parties[party];
+        party.owned = self.last_transaction;
+        party.deadline = match party.timeout {
+            0 => 0,
+            timeout => u64::from(self.clock) + u64::from(timeout),
+        };
+        true
+    }
+
+    /// Ends the party's owned transaction, if it has one.
+    fn end_transaction(&mut self, party: usize) {
+        let party = &mut self.parties[party];
+        let ending = party.owned;
+        if ending == 0 {
+            return;
+        }
+        party.owned = 0;
+        party.deadline = 0;
+        party.doomed = false;
+        self.retain_links(|link| {
+            if link.transaction != ending {
+                return true;
+            }
+            if link.state != State::Working {
+                return false;
+            }
+            match link.kind {
+                Kind::Request => link.open = false,
+                Kind::Conversation if link.cut != Cut::Told => link.cut_off(),
+                Kind::Conversation => {}
+            }
+            true
+        });
+    }
+
+    /// Disconnects the conversation at `place`.
+    fn disconnect_link(&mut self, place: usize) {
+        self.doom(self.links[place].transaction);
+        if self.links[place].state == State::Working {
+            self.links[place].cut_off();
+        } else {
+            self.remove_link(place);
+        }
+    }
+
+    /// Cancels the request at `place`; the service runs on.
+    fn cancel_link(&mut self, place: usize) {
+        if self.links[place].state == State::Returned {
+            self.remove_link(place);
+        } else {
+            self.links[place].open = false;
+        }
+    }
+
+    /// Closes the party's own links, whatever their transaction.
+    fn close_own_links(&mut self, party: usize) {
+        let mut i = 0;
+        while i < self.link_count {
+            if !self.links[i].is_open_end_of(party) {
+                i += 1;
+                continue;
+            }
+            // Either the link goes, or its end is closed and it is passed by.
+            match self.links[i].kind {
+                Kind::Request => self.cancel_link(i),
+                Kind::Conversation => self.disconnect_link(i),
+            }
+        }
+    }
+
+    /// Ends the party's service with an outcome.
+    fn end_service(&mut self, party: usize, outcome: u8, token: u32) {
+        let served = self.parties[party].served;
+        let i = self
+            .find(served)
+            .expect("a sound record has the served link");
+        let link = &mut self.links[i];
+        if outcome == ERROR || !link.server_is_free_holder() {
+            link.drop_unread();
+        }
+        self.close_own_links(party);
+        self.end_transaction(party);
+        // The served link is working, so it is still there, but may have moved.
+        let i = self.find(served).expect("a working link stays");
+        if outcome != SUCCESS {
+            self.doom(self.links[i].transaction);
+        }
+        self.parties[party].served = 0;
+        let link = &mut self.links[i];
+        if link.open {
+            link.state = State::Returned;
+            link.outcome = outcome;
+            link.ending_token = if outcome == ERROR { 0 } else { token };
+        } else {
+            self.remove_link(i);
+        }
+    }
+
+    // The TX kinds.
+
+    fn open(&mut self, p: usize) -> Decision {
+        self.parties[p].opened = true;
+        Ok(Reply::code(0))
+    }
+
+    fn close(&mut self, p: usize) -> Decision {
+        let party = &mut self.parties[p];
+        party.opened = false;
+        party.control = 0;
+        party.timeout = 0;
+        Ok(Reply::code(0))
+    }
+
+    fn begin(&mut self, p: usize) -> Decision {
+        ask(self.begin_transaction(p), -6)?;
+        Ok(Reply::code(0))
+    }
+
+    /// Commit and rollback.
+    fn complete(&mut self, p: usize, commit: bool) -> Decision {
+        let t = self.transaction(p);
+        ask(self.owner(t) == Some(p), -5)?;
+        let good = !commit
+            || !(self.parties[p].doomed
+                || self.is_expired(t)
+                || self
+                    .links()
+                    .iter()
+                    .any(|link| link.transaction == t && link.open));
+        let mut code = if good { 0 } else { -2 };
+        self.end_transaction(p);
+        if self.parties[p].control == 1 && !self.begin_transaction(p) {
+            code -= 100;
+        }
+        Ok(Reply::code(code))
+    }
+
+    fn info(&self, p: usize) -> Decision {
+        Ok(Reply::code(i64::from(self.transaction(p) != 0)))
+    }
+
+    fn set_commit_return(&self, a: u32) -> Decision {
+        ask(a <= 1, -8)?;
+        Ok(Reply::code(i64::from(a)))
+    }
+
+    fn set_control(&mut self, p: usize, a: u32) -> Decision {
+        ask(a <= 1, -8)?;
+        self.parties[p].control = a as u8;
+        Ok(Reply::code(0))
+    }
+
+    fn set_timeout(&mut self, p: usize, a: u32) -> Decision {
+        ask(a <= LONGEST_TIMEOUT, -8)?;
+        self.parties[p].timeout = a;
+        Ok(Reply::code(0))
+    }
+
+    // The XATMI kinds.
+
+    fn advertise(&mut self, p: usize, a: u32) -> Decision {
+        ask((1..=64).contains(&a), 22)?;
+        let party = &mut self.parties[p];
+        ask(party.offers(a) || party.services.count_ones() < OFFERED, 26)?;
+        party.services |= 1 << (a - 1);
+        Ok(Reply::value(party.services.count_ones()))
+    }
+
+    fn unadvertise(&mut self, p: usize, a: u32) -> Decision {
+        ask((1..=64).contains(&a), 22)?;
+        let party = &mut self.parties[p];
+        ask(party.offers(a), 25)?;
+        party.services &= !(1 << (a - 1));
+        Ok(Reply::value(party.services.count_ones()))
+    }
+
+    /// Request and connect.
+    fn originate(&mut self, p: usize, kind: Kind, a: u32, b: u32, c: u32) -> Decision {
+        let t = self.transaction(p);
+        let good_flags = match kind {
+            Kind::Request => b <= 3 && !(b == 1 && t != 0),
+            Kind::Conversation => matches!(b, 4 | 6 | 8 | 10),
+        };
+        ask((1..=64).contains(&a) && good_flags, 22)?;
+        let transaction = if b & 2 == 0 { t } else { 0 };
+        ask(!self.is_ended(transaction), 23)?;
+        ask(!self.is_expired(transaction), 28)?;
+        ask(self.parties.iter().any(|party| party.offers(a)), 25)?;
+        ask(self.link_count < LINKS && self.last_link < LAST_NUMBER, 26)?;
+        self.last_link += 1;
+        let no_reply = b & 1 != 0;
+        self.links[self.link_count] = Link {
+            number: self.last_link,
+            kind,
+            originator: p as u8,
+            open: !no_reply,
+            service: a,
+            transaction,
+            first_token: c,
+            holder: if b & 8 != 0 {
+                End::Server
+            } else {
+                End::Originator
+            },
+            ..Link::fresh()
+        };
+        self.link_count += 1;
+        Ok(Reply::value(if no_reply { 0 } else { self.last_link }))
+    }
+
+    fn take(&mut self, p: usize) -> Decision {
+        let party = &self.parties[p];
+        ask(
+            party.opened && party.served == 0 && self.transaction(p) == 0 && !self.has_open_end(p),
+            23,
+        )?;
+        let link = self.links[..self.link_count]
+            .iter_mut()
+            .find(|link| link.state == State::Waiting && party.offers(link.service))
+            .ok_or(32)?;
+        link.state = State::Working;
+        link.server = p as u8;
+        self.parties[p].served = link.number;
+        Ok(Reply {
+            code: 0,
+            value: link.number,
+            event: match (link.kind, link.holder) {
+                (Kind::Request, _) => 64,
+                (Kind::Conversation, End::Originator) => 65,
+                (Kind::Conversation, End::Server) => 66,
+            },
+            token: link.first_token,
+            service: link.service,
+        })
+    }
+
+    /// The place of the caller's open originator's end of that kind; else 24.
+    fn open_end(&self, p: usize, kind: Kind, a: u32) -> Result<usize, i64> {
+        self.find(a)
+            .filter(|&i| self.links[i].kind == kind && self.links[i].is_open_end_of(p))
+            .ok_or(24)
+    }
+
+    fn fetch(&mut self, p: usize, a: u32) -> Decision {
+        let i = self.open_end(p, Kind::Request, a)?;
+        let link = self.links[i];
+        ask(!self.is_expired(link.transaction), 28)?;
+        ask(link.state == State::Returned, 32)?;
+        self.remove_link(i);
+        let code = match link.outcome {
+            SUCCESS => 0,
+            FAIL => 30,
+            _ => 31,
+        };
+        Ok(Reply {
+            code,
+            token: link.ending_token,
+            ..Reply::default()
+        })
+    }
+
+    fn cancel(&mut self, p: usize, a: u32) -> Decision {
+        let i = self.open_end(p, Kind::Request, a)?;
+        ask(self.links[i].transaction == 0, 27)?;
+        self.cancel_link(i);
+        Ok(Reply::code(0))
+    }
+
+    /// The place of the conversation and the caller's end of it; else 24.
+    fn conversation_end(&self, p: usize, a: u32) -> Result<(usize, End), i64> {
+        let i = self.find(a).ok_or(24)?;
+        let link = &self.links[i];
+        if link.kind != Kind::Conversation {
+            Err(24)
+        } else if link.is_open_end_of(p) {
+            Ok((i, End::Originator))
+        } else if usize::from(link.server) == p
+            && link.state == State::Working
+            && link.cut != Cut::Told
+        {
+            Ok((i, End::Server))
+        } else {
+            Err(24)
+        }
+    }
+
+    /// What an end is told before it sends or receives: a cut, or the return.
+    fn conversation_news(&mut self, i: usize, end: End, sending: bool) -> Option<Reply> {
+        let link = &mut self.links[i];
+        match end {
+            End::Server if link.cut == Cut::Cut => {
+                link.cut = Cut::Told;
+                Some(Reply {
+                    code: 29,
+                    event: 1,
+                    ..Reply::default()
+                })
+            }
+            End::Originator
+                if link.state == State::Returned
+                    && link.unread_count == 0
+                    && !(sending && link.outcome == SUCCESS) =>
+            {
+                let event = u32::from(link.outcome);
+                let token = link.ending_token;
+                self.remove_link(i);
+                Some(Reply {
+                    code: 29,
+                    event,
+                    token,
+                    ..Reply::default()
+                })
+            }
+            _ => None,
+        }
+    }
+
+    fn send(&mut self, p: usize, a: u32, b: u32, c: u32) -> Decision {
+        let (i, end) = self.conversation_end(p, a)?;
+        ask(b <= 1, 22)?;
+        ask(!self.is_expired(self.links[i].transaction), 28)?;
+        if let Some(news) = self.conversation_news(i, end, true) {
+            return Ok(news);
+        }
+        let link = &mut self.links[i];
+        ask(link.holder == end && !link.handing_over, 23)?;
+        ask(usize::from(link.unread_count) < UNREAD, 32)?;
+        link.push_unread(c);
+        if b == 1 {
+            link.handing_over = true;
+        }
+        Ok(Reply::code(0))
+    }
+
+    fn receive(&mut self, p: usize, a: u32) -> Decision {
+        let (i, end) = self.conversation_end(p, a)?;
+        ask(!self.is_expired(self.links[i].transaction), 28)?;
+        if let Some(news) = self.conversation_news(i, end, false) {
+            return Ok(news);
+        }
+        let link = &mut self.links[i];
+        ask(link.holder != end, 23)?;
+        ask(link.unread_count > 0, 32)?;
+        let token = link.pop_unread();
+        if link.unread_count == 0 && link.handing_over {
+            link.holder = end;
+            link.handing_over = false;
+            return Ok(Reply {
+                code: 29,
+                event: 32,
+                token,
+                ..Reply::default()
+            });
+        }
+        Ok(Reply {
+            token,
+            ..Reply::default()
+        })
+    }
+
+    fn disconnect(&mut self, p: usize, a: u32) -> Decision {
+        let i = self.open_end(p, Kind::Conversation, a)?;
+        self.disconnect_link(i);
+        Ok(Reply::code(0))
+    }
+
+    fn return_service(&mut self, p: usize, a: u32, c: u32) -> Decision {
+        let party = &self.parties[p];
+        ask(party.served != 0, 23)?;
+        ask(a == 1 || a == 2, 22)?;
+        let i = self
+            .find(party.served)
+            .expect("a sound record has the served link");
+        let link = &self.links[i];
+        let talking = link.kind == Kind::Conversation;
+        let outcome =
+            if party.owned != 0 || self.has_open_end(p) || (talking && link.cut != Cut::No) {
+                ERROR
+            } else if talking && !link.server_is_free_holder() {
+                if a == 2 && c == 0 {
+                    FAIL
+                } else {
+                    ERROR
+                }
+            } else if a == 1 {
+                SUCCESS
+            } else {
+                FAIL
+            };
+        self.end_service(p, outcome, c);
+        Ok(Reply::value(u32::from(outcome)))
+    }
+
+    fn fall(&mut self, p: usize) -> Decision {
+        let serving = self.parties[p].served != 0;
+        if serving {
+            self.end_service(p, ERROR, 0);
+        } else {
+            self.close_own_links(p);
+            self.end_transaction(p);
+        }
+        self.parties[p] = Party::fresh();
+        Ok(Reply::value(if serving { u32::from(ERROR) } else { 0 }))
+    }
+
+    /// A call that is well-formed, on a sound record.
+    fn decide(&mut self, p: usize, kind: u32, a: u32, b: u32, c: u32) -> Decision {
+        if kind <= 9 {
+            let next = NEXT_STATE[kind as usize - 1][self.tx_state(p)];
+            ask(next != NONE, -5)?;
+        }
+        match kind {
+            1 => self.open(p),
+            2 => self.close(p),
+            3 => self.begin(p),
+            4 => self.complete(p, true),
+            5 => self.complete(p, false),
+            6 => self.info(p),
+            7 => self.set_commit_return(a),
+            8 => self.set_control(p, a),
+            9 => self.set_timeout(p, a),
+            10 => self.advertise(p, a),
+            11 => self.unadvertise(p, a),
+            12 => self.originate(p, Kind::Request, a, b, c),
+            13 => self.originate(p, Kind::Conversation, a, b, c),
+            14 => self.take(p),
+            15 => self.fetch(p, a),
+            16 => self.cancel(p, a),
+            17 => self.send(p, a, b, c),
+            18 => self.receive(p, a),
+            19 => self.disconnect(p, a),
+            20 => self.return_service(p, a, c),
+            _ => self.fall(p),
+        }
+    }
+
+    /// A call on a sound record: everything after question 19.
+    fn step_sound(&mut self, call: [u32; 6]) -> [i64; 6] {
+        let [clock, party, kind, a, b, c] = call;
+        if !(1..=21).contains(&kind) {
+            return [20, 0, 0, 0, 0, 0];
+        }
+        let p = party as usize;
+        if p >= PARTIES {
+            return [21, 0, 0, 0, 0, 0];
+        }
+        self.clock = self.clock.max(clock);
+        let reply = self.decide(p, kind, a, b, c).unwrap_or_else(Reply::code);
+        [
+            reply.code,
+            i64::from(reply.value),
+            i64::from(reply.event),
+            i64::from(reply.token),
+            i64::from(reply.service),
+            i64::from(self.transaction(p)),
+        ]
+    }
+}
+
+/// One call: clock, party, kind, a, b, c. The answer: code, value, event,
+/// token, service, the caller's transaction afterwards.
+pub fn step(monitor: &mut Monitor, call: [u32; 6]) -> [i64; 6] {
+    if !monitor.is_sound() {
+        return [19, 0, 0, 0, 0, 0];
+    }
+    monitor.step_sound(call)
+}
+
+/// A lent list of calls, six numbers each: 0, or 17, 16 or 19.
+pub fn run_list(monitor: &mut Monitor, calls: &[u32], answers: &mut [i64]) -> i64 {
+    if !calls.len().is_multiple_of(6) {
+        return 17;
+    }
+    if answers.len() < calls.len() {
+        return 16;
+    }
+    if !monitor.is_sound() {
+        return 19;
+    }
+    // A step keeps a sound record sound, so this was asked once for all.
+    for (call, answer) in calls.chunks_exact(6).zip(answers.chunks_exact_mut(6)) {
+        let call = call.try_into().expect("six numbers");
+        answer.copy_from_slice(&monitor.step_sound(call));
+    }
+    0
+}
+
+/// Whether two records agree, links compared by `same`.
+fn alike(one: &Monitor, two: &Monitor, same: impl Fn(&Link, &Link) -> bool) -> bool {
+    one.clock == two.clock
+        && one.last_link == two.last_link
+        && one.last_transaction == two.last_transaction
+        && one.parties == two.parties
+        && one.link_count == two.link_count
+        && one.links().iter().zip(two.links()).all(|(a, b)| same(a, b))
+}
+
+/// Whether two monitors are both sound and equal: all fields alike, unread
+/// compared by how many.
+pub fn equal(one: &Monitor, two: &Monitor) -> bool {
+    one.is_sound()
+        && two.is_sound()
+        && alike(one, two, |a, b| {
+            a.same_but_unread(b) && a.unread_count == b.unread_count
+        })
+}
+
+/// As `equal`, but the unread tokens are compared as well.
+pub fn equal_with_tokens(one: &Monitor, two: &Monitor) -> bool {
+    let unread = |link: &Link| link.unread.into_iter().take(usize::from(link.unread_count));
+    equal(one, two) && alike(one, two, |a, b| unread(a).eq(unread(b)))
+}
+
+#[cfg(test)]
+mod tests {
+    use super::*;
+
+    /// Runs calls and compares their answers.
+    fn drill(script: &[([u32; 6], [i64; 6])]) -> Monitor {
+        let mut m = Monitor::fresh();
+        for (n, (call, answer)) in script.iter().enumerate() {
+            assert_eq!(step(&mut m, *call), *answer, "call {n}: {call:?}");
+            assert!(m.is_sound());
+        }
+        m
+    }
+
+    /// Runs calls on a monitor and gives the codes.
+    fn codes(m: &mut Monitor, calls: &[[u32; 6]]) -> Vec<i64> {
+        calls.iter().map(|&call| step(m, call)[0]).collect()
+    }
+
+    #[test]
+    fn document_example() {
+        drill(&[
+            ([0, 0, 1, 0, 0, 0], [0, 0, 0, 0, 0, 0]),
+            ([0, 0, 3, 0, 0, 0], [0, 0, 0, 0, 0, 1]),
+            ([0, 0, 12, 5, 0, 7], [25, 0, 0, 0, 0, 1]),
+            ([128, 0, 4, 0, 0, 0], [0, 0, 0, 0, 0, 0]),
+        ]);
+    }
+
+    #[test]
+    fn marked_tx() {
+        let mut m = Monitor::fresh();
+        assert_eq!(
+            codes(&mut m, &[[0, 0, 3, 0, 0, 0], [0, 0, 2, 0, 0, 0]]),
+            [-5, 0]
+        );
+        let timeouts = [
+            [0, 0, 1, 0, 0, 0],
+            [0, 0, 9, 2147483648, 0, 0],
+            [0, 0, 9, 2147483647, 0, 0],
+        ];
+        assert_eq!(codes(&mut m, &timeouts), [0, -8, 0]);
+        for (clock, code) in [(14, 0), (15, -2)] {
+            let mut m = Monitor::fresh();
+            let calls = [
+                [0, 0, 1, 0, 0, 0],
+                [0, 0, 9, 10, 0, 0],
+                [5, 0, 3, 0, 0, 0],
+                [clock, 0, 4, 0, 0, 0],
+            ];
+            assert_eq!(codes(&mut m, &calls), [0, 0, 0, code]);
+        }
+        let mut m = Monitor::fresh();
+        codes(&mut m, &[[20, 0, 1, 0, 0, 0], [3, 0, 1, 0, 0, 0]]);
+        assert_eq!(m.clock, 20);
+    }
+
+    #[test]
+    fn marked_xatmi() {
+        // Cancel in T.
+        drill(&[
+            ([0, 0, 1, 0, 0, 0], [0, 0, 0, 0, 0, 0]),
+            ([0, 1, 10, 5, 0, 0], [0, 1, 0, 0, 0, 0]),
+            ([0, 0, 3, 0, 0, 0], [0, 0, 0, 0, 0, 1]),
+            ([0, 0, 12, 5, 0, 7], [0, 1, 0, 0, 0, 1]),
+            ([0, 0, 16, 1, 0, 0], [27, 0, 0, 0, 0, 1]),
+        ]);
+        // Fifth unread.
+        let mut m = Monitor::fresh();
+        let send = [0, 0, 17, 1, 0, 3];
+        let calls = [
+            [0, 1, 10, 5, 0, 0],
+            [0, 0, 13, 5, 4, 0],
+            send,
+            send,
+            send,
+            send,
+            send,
+        ];
+        assert_eq!(codes(&mut m, &calls), [0, 0, 0, 0, 0, 0, 32]);
+        // Ninth service.
+        let mut m = Monitor::fresh();
+        let calls: Vec<_> = (1..=9).map(|s| [0, 0, 10, s * 7, 0, 0]).collect();
+        assert_eq!(codes(&mut m, &calls), [0, 0, 0, 0, 0, 0, 0, 0, 26]);
+        assert_eq!(step(&mut m, [0, 0, 10, 56, 0, 0]), [0, 8, 0, 0, 0, 0]);
+        assert_eq!(step(&mut m, [0, 0, 11, 7, 0, 0]), [0, 7, 0, 0, 0, 0]);
+        assert_eq!(step(&mut m, [0, 0, 11, 7, 0, 0]), [25, 0, 0, 0, 0, 0]);
+    }
+
+    /// The service dies after its caller disconnected: the commit is bad.
+    #[test]
+    fn stocktaking() {
+        drill(&[
+            ([0, 0, 1, 0, 0, 0], [0, 0, 0, 0, 0, 0]),
+            ([0, 1, 1, 0, 0, 0], [0, 0, 0, 0, 0, 0]),
+            ([0, 1, 10, 5, 0, 0], [0, 1, 0, 0, 0, 0]),
+            ([0, 0, 3, 0, 0, 0], [0, 0, 0, 0, 0, 1]),
+            ([0, 0, 13, 5, 4, 7], [0, 1, 0, 0, 0, 1]),
+            ([0, 1, 14, 0, 0, 0], [0, 1, 65, 7, 5, 1]),
+            ([0, 0, 19, 1, 0, 0], [0, 0, 0, 0, 0, 1]),
+            ([0, 1, 21, 0, 0, 0], [0, 2, 0, 0, 0, 0]),
+            ([0, 0, 4, 0, 0, 0], [-2, 0, 0, 0, 0, 0]),
+        ]);
+    }
+
+    #[test]
+    fn conversation_turns() {
+        let m = drill(&[
+            ([0, 0, 1, 0, 0, 0], [0, 0, 0, 0, 0, 0]),
+            ([0, 1, 1, 0, 0, 0], [0, 0, 0, 0, 0, 0]),
+            ([0, 1, 10, 5, 0, 0], [0, 1, 0, 0, 0, 0]),
+            ([0, 0, 3, 0, 0, 0], [0, 0, 0, 0, 0, 1]),
+            ([0, 0, 13, 5, 4, 7], [0, 1, 0, 0, 0, 1]),
+            ([0, 0, 17, 1, 0, 8], [0, 0, 0, 0, 0, 1]),
+            ([0, 0, 17, 1, 1, 9], [0, 0, 0, 0, 0, 1]),
+            ([0, 0, 17, 1, 0, 9], [23, 0, 0, 0, 0, 1]),
+            ([0, 1, 14, 0, 0, 0], [0, 1, 65, 7, 5, 1]),
+            ([0, 1, 17, 1, 0, 5], [23, 0, 0, 0, 0, 1]),
+            ([0, 1, 18, 1, 0, 0], [0, 0, 0, 8, 0, 1]),
+            ([0, 1, 17, 1, 0, 5], [23, 0, 0, 0, 0, 1]),
+            ([0, 1, 18, 1, 0, 0], [29, 0, 32, 9, 0, 1]),
+            ([0, 1, 18, 1, 0, 0], [23, 0, 0, 0, 0, 1]),
+            ([0, 1, 17, 1, 0, 5], [0, 0, 0, 0, 0, 1]),
+            ([0, 1, 20, 1, 0, 6], [0, 8, 0, 0, 0, 0]),
+            ([0, 0, 17, 1, 0, 6], [23, 0, 0, 0, 0, 1]),
+            ([0, 0, 18, 1, 0, 0], [0, 0, 0, 5, 0, 1]),
+            ([0, 0, 17, 1, 0, 6], [23, 0, 0, 0, 0, 1]),
+            ([0, 0, 18, 1, 0, 0], [29, 0, 8, 6, 0, 1]),
+            ([0, 0, 18, 1, 0, 0], [24, 0, 0, 0, 0, 1]),
+            ([0, 0, 4, 0, 0, 0], [0, 0, 0, 0, 0, 0]),
+        ]);
+        assert_eq!(m.link_count, 0);
+    }
+
+    /// A return after handing over is not orderly.
+    #[test]
+    fn return_after_handing_over() {
+        for (a, c, outcome, token) in [(1, 6, 2, 0), (2, 6, 2, 0), (2, 0, 4, 0), (1, 0, 2, 0)] {
+            drill(&[
+                ([0, 1, 1, 0, 0, 0], [0, 0, 0, 0, 0, 0]),
+                ([0, 1, 10, 5, 0, 0], [0, 1, 0, 0, 0, 0]),
+                ([0, 0, 13, 5, 8, 7], [0, 1, 0, 0, 0, 0]),
+                ([0, 1, 14, 0, 0, 0], [0, 1, 66, 7, 5, 0]),
+                ([0, 1, 17, 1, 1, 5], [0, 0, 0, 0, 0, 0]),
+                ([0, 1, 20, a, 0, c], [0, outcome, 0, 0, 0, 0]),
+                ([0, 0, 17, 1, 0, 6], [29, 0, outcome, token, 0, 0]),
+            ]);
+        }
+    }
+
+    /// A failed service spoils the transaction when it returns.
+    #[test]
+    fn failed_service() {
+        drill(&[
+            ([0, 0, 1, 0, 0, 0], [0, 0, 0, 0, 0, 0]),
+            ([0, 0, 8, 1, 0, 0], [0, 0, 0, 0, 0, 0]),
+            ([0, 1, 1, 0, 0, 0], [0, 0, 0, 0, 0, 0]),
+            ([0, 1, 10, 5, 0, 0], [0, 1, 0, 0, 0, 0]),
+            ([0, 0, 3, 0, 0, 0], [0, 0, 0, 0, 0, 1]),
+            ([0, 0, 12, 5, 1, 7], [22, 0, 0, 0, 0, 1]),
+            ([0, 0, 12, 5, 0, 7], [0, 1, 0, 0, 0, 1]),
+            ([0, 0, 15, 1, 0, 0], [32, 0, 0, 0, 0, 1]),
+            ([0, 1, 14, 0, 0, 0], [0, 1, 64, 7, 5, 1]),
+            ([0, 1, 4, 0, 0, 0], [-5, 0, 0, 0, 0, 1]),
+            ([0, 1, 20, 3, 0, 9], [22, 0, 0, 0, 0, 1]),
+            ([0, 1, 20, 2, 0, 9], [0, 4, 0, 0, 0, 0]),
+            ([0, 0, 15, 1, 0, 0], [30, 0, 0, 9, 0, 1]),
+            ([0, 0, 4, 0, 0, 0], [-2, 0, 0, 0, 0, 2]),
+            ([0, 0, 6, 0, 0, 0], [1, 0, 0, 0, 0, 2]),
+            ([0, 0, 4, 0, 0, 0], [0, 0, 0, 0, 0, 3]),
+        ]);
+    }
+
+    #[test]
+    fn lists() {
+        let mut m = Monitor::fresh();
+        let mut answers = [77i64; 15];
+        assert_eq!(run_list(&mut m, &[0; 7], &mut answers), 17);
+        assert_eq!(run_list(&mut m, &[0; 7], &mut answers[..1]), 17);
+        assert_eq!(run_list(&mut m, &[0; 18], &mut answers), 16);
+        assert_eq!(answers, [77; 15]);
+        assert!(equal(&m, &Monitor::fresh()));
+        assert_eq!(run_list(&mut m, &[], &mut answers), 0);
+        let calls = [9, 0, 99, 0, 0, 0, 4, 0, 1, 0, 0, 0];
+        assert_eq!(run_list(&mut m, &calls, &mut answers), 0);
+        assert_eq!(answers, [20, 0, 0, 0, 0, 0, 0, 0, 0, 0, 0, 0, 77, 77, 77]);
+        assert_eq!(m.clock, 4);
+        m.last_link = LAST_NUMBER + 1;
+        assert_eq!(run_list(&mut m, &[], &mut answers), 19);
+        assert_eq!(run_list(&mut m, &calls, &mut answers), 19);
+        assert_eq!(step(&mut m, [50, 90, 99, 0, 0, 0]), [19, 0, 0, 0, 0, 0]);
+        assert_eq!(m.clock, 4);
+        assert!(!equal(&m, &m.clone()));
+    }
+
+    #[test]
+    fn order_of_first_questions() {
+        let mut m = Monitor::fresh();
+        assert_eq!(step(&mut m, [5, 16, 0, 0, 0, 0])[0], 20);
+        assert_eq!(step(&mut m, [5, 16, 22, 0, 0, 0])[0], 20);
+        assert_eq!(step(&mut m, [5, 16, 21, 0, 0, 0])[0], 21);
+        assert_eq!(m.clock, 0);
+    }
+
+    #[test]
+    fn equality_counts_unread() {
+        let mut one = Monitor::fresh();
+        codes(&mut one, &[[0, 1, 10, 5, 0, 0], [0, 0, 13, 5, 4, 0]]);
+        let mut two = one.clone();
+        step(&mut one, [0, 0, 17, 1, 0, 3]);
+        step(&mut two, [0, 0, 17, 1, 0, 4]);
+        assert!(equal(&one, &two));
+        assert!(!equal_with_tokens(&one, &two));
+        step(&mut two, [0, 0, 17, 1, 0, 4]);
+        assert!(!equal(&one, &two));
+    }
+
+    /// The states after accepted TX calls are those of the table.
+    #[test]
+    fn state_table() {
+        for kind in 1..=9u32 {
+            for state in 0..5usize {
+                let mut m = Monitor::fresh();
+                m.parties[3].opened = state > 0;
+                m.parties[3].control = u8::from(state == 2 || state == 4);
+                m.last_transaction = 9;
+                m.parties[3].owned = if state > 2 { 9 } else { 0 };
+                assert_eq!(m.tx_state(3), state);
+                // For kind 8, the control it has already.
+                let a = if kind == 8 {
+                    u32::from(m.parties[3].control)
+                } else {
+                    0
+                };
+                let code = step(&mut m, [0, 3, kind, a, 0, 0])[0];
+                match NEXT_STATE[kind as usize - 1][state] {
+                    NONE => assert_eq!((code, m.tx_state(3)), (-5, state)),
+                    next => assert_eq!((code >= 0, m.tx_state(3)), (true, usize::from(next))),
+                }
+            }
+        }
+    }
+
+    #[test]
+    fn spent_numbers() {
+        let mut m = Monitor::fresh();
+        m.last_transaction = LAST_NUMBER - 2;
+        m.last_link = LAST_NUMBER - 1;
+        let answers: Vec<_> = [
+            [0, 0, 1, 0, 0, 0],
+            [0, 0, 8, 1, 0, 0],
+            [0, 1, 1, 0, 0, 0],
+            [0, 1, 8, 1, 0, 0],
+            [0, 1, 10, 5, 0, 0],
+            [0, 0, 3, 0, 0, 0],
+            [0, 1, 3, 0, 0, 0],
+            [0, 0, 12, 5, 0, 0],
+            [0, 0, 12, 5, 0, 0],
+            [0, 0, 4, 0, 0, 0],
+            [0, 1, 4, 0, 0, 0],
+            [0, 1, 3, 0, 0, 0],
+        ]
+        .iter()
+        .map(|&call| step(&mut m, call))
+        .map(|answer| (answer[0], answer[1], answer[5]))
+        .collect();
+        assert_eq!(
+            answers[5..8],
+            [(0, 0, 59_999), (0, 0, 60_000), (0, 60_000, 59_999)]
+        );
+        assert_eq!(
+            answers[8..],
+            [(26, 0, 59_999), (-102, 0, 0), (-100, 0, 0), (-6, 0, 0)]
+        );
+    }
+}
