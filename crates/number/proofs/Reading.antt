@@ -12,9 +12,11 @@ use lib.Arith.{digits-lt}
 use lib.Dec.{ltb}
 use lib.Pow.{pow-add}
 use lib.ListN.{length, take, drop, length-drop}
-use lib.Seq.{take-append-le, take-nil}
+use lib.Seq.{take-append-le, take-nil, drop-append-le, drop-drop}
+use Rattle.number.specs.Choice.{pick}
 use Rattle.number.specs.Reader.{Reading, number, refused, continued, readGroups, readNumber, groupCount, numberEnd}
-use Rattle.number.proofs.Groups.{continued-zero, continued-high, front-last, front-large, front-more, front-none, count-last, count-more, front-ends}
+use Rattle.number.proofs.Choice.{by-test}
+use Rattle.number.proofs.Groups.{continued-zero, continued-high, front-last, front-large, front-more, count-last, count-more, front-ends}
 
 pub below-or-not : (m n : ℕ) → (m < n) ⊎ (n ≤ m)
 below-or-not m n = go (ltb m n) refl
@@ -117,6 +119,15 @@ front-alike (suc most) bits place (byte ∷ bytes) others whole e =
     others (subst (λ (k : ℕ). take k others ≡ take k (byte ∷ bytes)) (count-more most byte bytes h) e))
     (below-or-not byte 128)
 
+-- no more groups than bytes, and than may come
+groups-few : (most : ℕ) (bytes : List ℕ) → (groupCount most bytes ≤ length bytes) × (groupCount most bytes ≤ most)
+unfolding groupCount
+groups-few zero bytes = (omega arith, omega arith)
+groups-few (suc most) [] = (omega arith, omega arith)
+groups-few (suc most) (byte ∷ bytes) =
+    let few = groups-few most bytes in
+    by-test (λ (n : ℕ). (n ≤ suc (length bytes)) × (n ≤ suc most)) (ltb byte 128) (omega arith, omega arith) (omega (arith, few .0), omega (arith, few .1))
+
 -- ---- at a place of the input
 
 module _ (most bits : ℕ) (input : List ℕ) (place : ℕ) where
@@ -141,6 +152,11 @@ module _ (most bits : ℕ) (input : List ℕ) (place : ℕ) where
     where
       go : Told most bits place (drop place input) (refused 17) → length input ≤ place + groupCount most (drop place input)
       go (cut whole) = omega (arith, length-drop place input)
+
+  -- and then the input has no more bytes from the place on than a number may have
+  pub cut-near-end : readNumber most bits input place ≡ refused 17 → length input ≤ place + most
+  unfolding numberEnd
+  cut-near-end e = omega (arith, cut-reaches-end e, groups-few most (drop place input) .1)
 
   module _ (value next : ℕ) (e : readNumber most bits input place ≡ number value next) where
     told-number : Told most bits place (drop place input) (number value next)
@@ -167,6 +183,11 @@ module _ (most bits : ℕ) (input : List ℕ) (place : ℕ) where
       where
         go : Told most bits place (drop place input) (number value next) → place < next
         go (accepted v n small end some few) = omega arith
+
+    -- at most by the most bytes
+    pub number-near : next ≤ place + most
+    unfolding numberEnd
+    number-near = omega (arith, number-end, groups-few most (drop place input) .1)
 
     -- and not past the input's end
     pub number-within : next ≤ length input
@@ -205,3 +226,67 @@ pub number-extends : (most bits : ℕ) (input more : List ℕ) (place value next
 number-extends most bits input more place value next e =
     number-alike most bits input (input ++ more) place value next e
     (take-append-le next input more (number-within most bits input place value next e))
+
+-- What follows does not matter, unless the number is cut short.
+pub answer-extends : (most bits : ℕ) (input more : List ℕ) (place : ℕ) → place ≤ length input → (readNumber most bits input place ≡ refused 17 → ⊥)
+    → readNumber most bits (input ++ more) place ≡ readNumber most bits input place
+unfolding readNumber
+answer-extends most bits input more place h whole =
+    ap (readGroups most bits place) (drop-append-le place input more h)
+    ∙ front-alike most bits place (drop place input) (drop place input ++ more) whole
+    (take-append-le (groupCount most (drop place input)) (drop place input) more (groups-few most (drop place input) .0))
+
+-- ---- the same bytes at another place
+
+-- an answer with the place after the number so much further on
+unfoldable pub shifted : ℕ → Reading → Reading
+shifted by (number value next) = number value (by + next)
+shifted by (refused code) = refused code
+
+continued-shifts : (by low weight : ℕ) (r : Reading) → continued low weight (shifted by r) ≡ shifted by (continued low weight r)
+unfolding continued shifted pick
+continued-shifts by low weight (number zero next) = refl
+continued-shifts by low weight (number (suc high) next) =
+    continued-high low weight (suc high) (by + next) (omega arith)
+    ∙ ap (shifted by) (sym (continued-high low weight (suc high) next (omega arith)))
+continued-shifts by low weight (refused code) = refl
+
+module _ (by most bits place byte : ℕ) (bytes : List ℕ) where
+  next-place : by + place + 1 ≡ by + (place + 1)
+  next-place = omega arith
+
+  last-shifts : byte < 128 → readGroups (suc most) bits (by + place) (byte ∷ bytes) ≡ shifted by (readGroups (suc most) bits place (byte ∷ bytes))
+  unfolding shifted
+  last-shifts h =
+      ⊎-elim
+      (λ k.
+      front-last most bits (by + place) byte bytes h k
+      ∙ ap (number byte) next-place
+      ∙ ap (shifted by) (sym (front-last most bits place byte bytes h k)))
+      (λ k. front-large most bits (by + place) byte bytes h k ∙ ap (shifted by) (sym (front-large most bits place byte bytes h k)))
+      (below-or-not byte (2 ^ bits))
+
+  more-shifts : 128 ≤ byte → readGroups most (bits - 7) (by + (place + 1)) bytes ≡ shifted by (readGroups most (bits - 7) (place + 1) bytes)
+      → readGroups (suc most) bits (by + place) (byte ∷ bytes) ≡ shifted by (readGroups (suc most) bits place (byte ∷ bytes))
+  more-shifts h e =
+      front-more most bits (by + place) byte bytes h
+      ∙ ap (λ (p : ℕ). continued (byte % 128) 128 (readGroups most (bits - 7) p bytes)) next-place
+      ∙ ap (continued (byte % 128) 128) e
+      ∙ continued-shifts by (byte % 128) 128 (readGroups most (bits - 7) (place + 1) bytes)
+      ∙ ap (shifted by) (sym (front-more most bits place byte bytes h))
+
+groups-shift : (by most bits place : ℕ) (bytes : List ℕ) → readGroups most bits (by + place) bytes ≡ shifted by (readGroups most bits place bytes)
+unfolding readGroups shifted
+groups-shift by zero bits place bytes = refl
+groups-shift by (suc most) bits place [] = refl
+groups-shift by (suc most) bits place (byte ∷ bytes) =
+    ⊎-elim (last-shifts by most bits place byte bytes)
+    (λ h. more-shifts by most bits place byte bytes h (groups-shift by most (bits - 7) (place + 1) bytes))
+    (below-or-not byte 128)
+
+-- what stands at a place is what stands there once some bytes in front of it are left out
+pub number-shifts : (most bits : ℕ) (input : List ℕ) (by place : ℕ)
+    → readNumber most bits input (by + place) ≡ shifted by (readNumber most bits (drop by input) place)
+unfolding readNumber
+number-shifts most bits input by place =
+    ap (readGroups most bits (by + place)) (sym (drop-drop place by input)) ∙ groups-shift by most bits place (drop place (drop by input))

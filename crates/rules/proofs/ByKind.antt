@@ -1,11 +1,12 @@
 -- A statement of every kind's rule is one of whatever rule the kind's number chooses.
 -- Assumes nothing.
 use mathlib.Core.Path.{_≡_}
-use mathlib.Core.Bool.{true, false}
+use mathlib.Core.Bool.{true}
 use Prim.Native.Nat.{ℕ, suc, _≤_}
 use native.Mathlib.Omega.{arith}
 use lib.Dec.{eqb, leb}
 use borrow.Author.Tests.{eqb-true, eqb-false, leb-true}
+use Rattle.rules.specs.Choice.{pick}
 use Rattle.rules.specs.Tx.{openOf, closeOf, beginOf, commitOf, rollbackOf, infoOf, commitReturnOf, controlOf, timeoutOf}
 use Rattle.rules.specs.Services.{advertiseOf, unadvertiseOf}
 use Rattle.rules.specs.Requests.{requestOf, connectOf, dispatchOf, fetchOf, cancelOf}
@@ -43,32 +44,32 @@ pub record OfEachKind (P : Ruled → Type 0) (m : Monitor) (p k a b c : ℕ) : T
 pub by-kind : (P : Ruled → Type 0) (m : Monitor) (p k a b c : ℕ) → isKind k ≡ true → OfEachKind P m p k a b c → P (ruleOf m p k a b c)
 unfolding ruleOf
 by-kind P m p k a b c h f =
-    byTest P (λ e. f .onOpen (eqb-true _ _ e)) λ n1.
-    byTest P (λ e. f .onClose (eqb-true _ _ e)) λ n2.
-    byTest P (λ e. f .onBegin (eqb-true _ _ e)) λ n3.
-    byTest P (λ e. f .onCommit (eqb-true _ _ e)) λ n4.
-    byTest P (λ e. f .onRollback (eqb-true _ _ e)) λ n5.
-    byTest P (λ e. f .onInfo (eqb-true _ _ e)) λ n6.
-    byTest P (λ e. f .onCommitReturn (eqb-true _ _ e)) λ n7.
-    byTest P (λ e. f .onControl (eqb-true _ _ e)) λ n8.
-    byTest P (λ e. f .onTimeout (eqb-true _ _ e)) λ n9.
-    byTest P (λ e. f .onAdvertise (eqb-true _ _ e)) λ n10.
-    byTest P (λ e. f .onUnadvertise (eqb-true _ _ e)) λ n11.
-    byTest P (λ e. f .onRequest (eqb-true _ _ e)) λ n12.
-    byTest P (λ e. f .onConnect (eqb-true _ _ e)) λ n13.
-    byTest P (λ e. f .onDispatch (eqb-true _ _ e)) λ n14.
-    byTest P (λ e. f .onFetch (eqb-true _ _ e)) λ n15.
-    byTest P (λ e. f .onCancel (eqb-true _ _ e)) λ n16.
-    byTest P (λ e. f .onSend (eqb-true _ _ e)) λ n17.
-    byTest P (λ e. f .onReceive (eqb-true _ _ e)) λ n18.
-    byTest P (λ e. f .onDisconnect (eqb-true _ _ e)) λ n19.
-    byTest P (λ e. f .onReturn (eqb-true _ _ e)) λ n20.
-    byTest P (λ e. f .onTerminate (eqb-true _ _ e)) λ n21.
-    absurd (none (leb-true k 21 (and-r (leb 1 k) _ h))
-    (above 21 (above 20 (above 19 (above 18 (above 17 (above 16 (above 15 (above 14 (above 13 (above 12 (above 11 (above 10 (above 9 (above 8 (above 7 (above 6 (above 5 (above 4 (above 3 (above 2 (above 1 (leb-true 1 k (and-l _ _ h)) n1) n2) n3) n4) n5) n6) n7) n8) n9) n10) n11) n12) n13) n14) n15) n16) n17) n18) n19) n20) n21))
+    of-kind 1 (leb-true 1 k (and-l _ _ h)) (f .onOpen) λ above1.
+    of-kind 2 above1 (f .onClose) λ above2.
+    of-kind 3 above2 (f .onBegin) λ above3.
+    of-kind 4 above3 (f .onCommit) λ above4.
+    of-kind 5 above4 (f .onRollback) λ above5.
+    of-kind 6 above5 (f .onInfo) λ above6.
+    of-kind 7 above6 (f .onCommitReturn) λ above7.
+    of-kind 8 above7 (f .onControl) λ above8.
+    of-kind 9 above8 (f .onTimeout) λ above9.
+    of-kind 10 above9 (f .onAdvertise) λ above10.
+    of-kind 11 above10 (f .onUnadvertise) λ above11.
+    of-kind 12 above11 (f .onRequest) λ above12.
+    of-kind 13 above12 (f .onConnect) λ above13.
+    of-kind 14 above13 (f .onDispatch) λ above14.
+    of-kind 15 above14 (f .onFetch) λ above15.
+    of-kind 16 above15 (f .onCancel) λ above16.
+    of-kind 17 above16 (f .onSend) λ above17.
+    of-kind 18 above17 (f .onReceive) λ above18.
+    of-kind 19 above18 (f .onDisconnect) λ above19.
+    of-kind 20 above19 (f .onReturn) λ above20.
+    of-kind 21 above20 (f .onTerminate) λ above21.
+    absurd (none (leb-true k 21 (and-r (leb 1 k) _ h)) above21)
   where
-    above : (i : ℕ) → i ≤ k → eqb k i ≡ false → suc i ≤ k
-    above i le n = let d = eqb-false k i n in omega arith
+    -- it is i, or above it
+    of-kind : (i : ℕ) {x y : Ruled} → i ≤ k → (k ≡ i → P x) → (suc i ≤ k → P y) → P (pick (eqb k i) x y)
+    of-kind i le g rest = byTest P (λ e. g (eqb-true k i e)) (λ n. rest (let d = eqb-false k i n in omega arith))
 
     none : k ≤ 21 → 22 ≤ k → ⊥
     none x y = omega arith

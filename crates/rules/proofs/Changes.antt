@@ -16,9 +16,8 @@ use Rattle.rules.specs.declared.Link.{Link}
 use Rattle.rules.specs.declared.Party.{Party}
 use Rattle.rules.specs.declared.Monitor.{Monitor}
 use Rattle.rules.proofs.Logic.{Nz, pick-true, pick-false, pick-same, test, byTest, not-both, same-refl, same-true, same-false, same-ne, suc-nz, byNumber}
-use Rattle.rules.proofs.Fine.{look, Between, Frame}
+use Rattle.rules.proofs.Fine.{noLink, look, Between, Frame}
 use Rattle.rules.proofs.Looks.{between-low, look-below, look-cases, look-next}
-use Rattle.rules.proofs.History.Moves.{noLink}
 
 pub live-length : (m : Monitor) → Frame m → length (live m) ≡ m .count
 live-length m fr = length-take-le (m .count) (m .links) (let a = fr .shape .links32 in let b = fr .count32 in omega arith)

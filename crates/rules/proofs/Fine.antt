@@ -1,4 +1,5 @@
--- A sound record, taken apart: what soundness and the declared lengths say of its lists, link by link and party by party.
+-- A sound record, taken apart: what soundness and the declared lengths say of its lists, link by link and party by party,
+-- and what stands for a link that is not there.
 -- Assumes nothing.
 use mathlib.Core.Path.{_≡_}
 use mathlib.Core.List.{List, [], _∷_}
@@ -6,17 +7,25 @@ use mathlib.Core.Bool.{true}
 use Prim.Native.Nat.{ℕ, _≤_, _<_}
 use lib.ListN.{length}
 use Rattle.rules.specs.Choice.{pick, same}
-use Rattle.rules.specs.Record.{isWorking, party, live}
+use Rattle.rules.specs.Record.{freshLink, isWorking, party, live, returned}
 use Rattle.rules.specs.Sound.{linkGood, choicesGood}
 use Rattle.rules.specs.declared.Link.{Link}
 use Rattle.rules.specs.declared.Monitor.{Monitor}
+use Rattle.rules.specs.declared.Party.{Party}
 use Rattle.rules.proofs.Logic.{Nz}
-use Rattle.rules.proofs.History.Moves.{noLink}
+
+-- a link that is not there: nobody's end is open, and nothing is to come
+unfoldable pub noLink : Link
+noLink = returned freshLink 2 0
 
 -- the link with the number d, or noLink
 unfoldable pub look : ℕ → List Link → Link
 look d [] = noLink
 look d (l ∷ ls) = pick (same (l .number) d) l (look d ls)
+
+-- party q's transaction, of a record seen as two functions: P : party ↦ its record, L : number ↦ its link
+unfoldable pub txP : (ℕ → Party) → (ℕ → Link) → ℕ → ℕ
+txP P L q = pick (same (P q .owned) 0) (L (P q .served) .tx) (P q .owned)
 
 -- the numbers rise strictly, above lo and up to hi
 abbrev pub Between : ℕ → List Link → ℕ → Type 0

@@ -6,11 +6,11 @@ use mathlib.Core.Bool.{true, false, not}
 use mathlib.Core.List.{List, [], _∷_, _++_}
 use Prim.Native.Nat.{ℕ, zero, suc, _≤_, _<_}
 use native.Mathlib.Omega.{arith}
-use lib.Dec.{eqb}
-use lib.IntN.{ℤ, pos, negsuc}
+use lib.IntN.{ℤ}
 use lib.ListN.{drop}
 use borrow.Author.Tests.{leb-true, ltb-true}
 use Rattle.rules.specs.Choice.{pick}
+use Rattle.rules.specs.Codes.{unsound}
 use Rattle.rules.specs.Record.{freshMonitor}
 use Rattle.rules.specs.Sound.{sound}
 use Rattle.rules.specs.Step.{ruleOf, isKind, advanced, laterOf, told, turnedDown, callOf, stepOf}
@@ -22,8 +22,9 @@ use Rattle.rules.specs.Refusals.{isEarly}
 use Rattle.rules.specs.declared.Call.{Call}
 use Rattle.rules.specs.declared.Monitor.{Monitor}
 use Rattle.rules.specs.declared.Stepped.{Stepped}
-use Rattle.rules.proofs.Logic.{byTest, not-both, pick-true, pick-false, or-l}
+use Rattle.rules.proofs.Logic.{byTest, not-both, pick-true, pick-false}
 use Rattle.rules.proofs.Fine.{Shape, Fine}
+use Rattle.rules.proofs.Codes.{codes-apart}
 use Rattle.rules.proofs.Sound.{sound-fine, fine-sound, fresh-fine, clock-fine, moved-fine}
 use Rattle.rules.proofs.Refusals.{rule-past}
 use Rattle.rules.proofs.History.Bridge.{move-grows}
@@ -95,13 +96,12 @@ pub never-unsound : (es : List Entry) → SoundRecord (recordAfter freshMonitor 
 never-unsound es = entries-sound-kept es freshMonitor fresh-sound
 
 -- ---- question 19
-past-not-19 : (code : ℤ) → isEarly code ≡ false → sameCode (pos 19) code ≡ false
+past-not-19 : (code : ℤ) → isEarly code ≡ false → sameCode unsound code ≡ false
 unfolding isEarly
-past-not-19 (pos n) h = or-l (eqb 19 n) _ h
-past-not-19 (negsuc n) h = refl
+past-not-19 code = codes-apart isEarly unsound code refl
 
 -- the questions after it never answer 19, whatever the record
-call-not-19 : (m : Monitor) (c : Call) → sameCode (pos 19) (callOf m c .answer .code) ≡ false
+call-not-19 : (m : Monitor) (c : Call) → sameCode unsound (callOf m c .answer .code) ≡ false
 unfolding callOf told turnedDown
 call-not-19 m c = byTest Not19
     (λ k. byTest Not19
@@ -110,29 +110,29 @@ call-not-19 m c = byTest Not19
     (λ _. refl)
   where
     Not19 : Stepped → Type 0
-    Not19 s = sameCode (pos 19) (s .answer .code) ≡ false
+    Not19 s = sameCode unsound (s .answer .code) ≡ false
 
 -- a call is answered 19 just when the record is not sound
-pub unsound-19 : (m : Monitor) (c : Call) → sameCode (pos 19) (stepOf m c .answer .code) ≡ not (sound m)
+pub unsound-19 : (m : Monitor) (c : Call) → sameCode unsound (stepOf m c .answer .code) ≡ not (sound m)
 unfolding stepOf turnedDown
-unsound-19 m c = byTest (λ (s : Stepped). sameCode (pos 19) (s .answer .code) ≡ not (sound m))
+unsound-19 m c = byTest (λ (s : Stepped). sameCode unsound (s .answer .code) ≡ not (sound m))
     (λ y. rw y (call-not-19 m c)) (λ n. rw n)
 
 -- no lent list returns 19 on a sound record
-pub sound-list-not-19 : (m : Monitor) → SoundRecord m → (cs : List ℕ) (out : List ℤ) → sameCode (pos 19) (listOf m cs out .code) ≡ false
+pub sound-list-not-19 : (m : Monitor) → SoundRecord m → (cs : List ℕ) (out : List ℤ) → sameCode unsound (listOf m cs out .code) ≡ false
 unfolding listOf
 sound-list-not-19 m s cs out =
     byTest Not19 (λ _. byTest Not19 (λ _. byTest Not19 (λ _. refl) (λ n. not-both (s .isSound) n)) (λ _. refl)) (λ _. refl)
   where
     Not19 : Listed → Type 0
-    Not19 l = sameCode (pos 19) (l .code) ≡ false
+    Not19 l = sameCode unsound (l .code) ≡ false
 
-pub reached-list-not-19 : (es : List Entry) (cs : List ℕ) (out : List ℤ) → sameCode (pos 19) (listOf (recordAfter freshMonitor es) cs out .code) ≡ false
+pub reached-list-not-19 : (es : List Entry) (cs : List ℕ) (out : List ℤ) → sameCode unsound (listOf (recordAfter freshMonitor es) cs out .code) ≡ false
 reached-list-not-19 es cs out = sound-list-not-19 (recordAfter freshMonitor es) (never-unsound es) cs out
 
 -- no event of the history was answered 19
 Silent19 : List Event → Type 0
-Silent19 h = some (answeredBy (pos 19)) h ≡ false
+Silent19 h = some (answeredBy unsound) h ≡ false
 
 calls-silent : (n : ℕ) (m : Monitor) (cs : List ℕ) (rest : List ℤ) (h : List Event) → Silent19 h → Silent19 (thenCalls n cs (answersOf n m cs ++ rest) h)
 unfolding thenCalls answersOf placesOf readAnswer readCall
@@ -155,7 +155,7 @@ entries-silent (single c ∷ es) m h s i = entries-silent es (stepOf m c .monito
     (unfold Silent19 some answeredBy in rw (unsound-19 m c, s .isSound) i)
 entries-silent (lent cs out ∷ es) m h s i = entries-silent es (listOf m cs out .monitor) _ (list-sound-kept m s cs out) (list-silent m s cs out h i)
 
-pub never-19 : (es : List Entry) → some (answeredBy (pos 19)) (answered freshMonitor [] es) ≡ false
+pub never-19 : (es : List Entry) → some (answeredBy unsound) (answered freshMonitor [] es) ≡ false
 unfolding Silent19 some
 never-19 es = entries-silent es freshMonitor [] fresh-sound refl
 

@@ -1,16 +1,15 @@
 -- A lent list, call by call: each answer stands in its place and is that of its call, a refused one too.
 -- Assumes nothing.
 use mathlib.Core.Path.{_≡_, refl, sym, ap, subst, _∙_}
-use mathlib.Core.Bool.{true, false}
+use mathlib.Core.Bool.{true}
 use mathlib.Core.List.{List, _++_}
 use Prim.Native.Nat.{ℕ, zero, suc, _+_, _*_, _<_}
 use native.Mathlib.Nat.{le-of-suc-le-suc, not-suc-le-zero}
 use native.Mathlib.Omega.{arith}
-use lib.Dec.{eqb}
-use lib.IntN.{ℤ, pos}
+use lib.IntN.{ℤ}
 use lib.ListN.{drop}
 use lib.Seq.{drop-drop}
-use borrow.Author.Tests.{eqb-false}
+use Rattle.rules.specs.Codes.{listRun, tooLittleRoom, cutShort, unsound}
 use Rattle.rules.specs.Step.{callOf}
 use Rattle.rules.specs.Run.{callAt, placesOf, ranOf, answersOf, callsIn, Listed, listed, listOf}
 use Rattle.rules.specs.History.{readAnswer}
@@ -19,6 +18,7 @@ use Rattle.rules.specs.declared.Call.{Call}
 use Rattle.rules.specs.declared.Monitor.{Monitor}
 use Rattle.rules.specs.declared.Stepped.{Stepped}
 use Rattle.rules.proofs.Logic.{byTest, not-both}
+use Rattle.rules.proofs.Codes.{codes-differ}
 use Rattle.rules.proofs.Refusals.{call-refusal-law}
 
 -- the call in place i of a list, from 0
@@ -54,21 +54,18 @@ pub each-call : (n i : ℕ) (m : Monitor) (cs : List ℕ) (rest : List ℤ) → 
 each-call n i m cs rest h = rw (answer-in-place n i m cs rest h, record-in-place i m cs)
 
 -- the same of a list that ran
-pub list-each-call : (m : Monitor) (cs : List ℕ) (out : List ℤ) → listOf m cs out .code ≡ pos 0 → (i : ℕ) → i < callsIn cs
+pub list-each-call : (m : Monitor) (cs : List ℕ) (out : List ℤ) → listOf m cs out .code ≡ listRun → (i : ℕ) → i < callsIn cs
     → shownIn m cs (listOf m cs out .places) i ≡ callOf (ranOf i m cs) (callIn cs i)
 unfolding listOf
 list-each-call m cs out = byTest Each (λ _. byTest Each (λ _. byTest Each
     (λ _ _ i h. each-call (callsIn cs) i m cs (drop (callsIn cs * 6) out) h)
-    (λ _ e. absurd (not-0 19 refl e))) (λ _ e. absurd (not-0 16 refl e))) (λ _ e. absurd (not-0 17 refl e))
+    (λ _ e. absurd (codes-differ unsound listRun refl e))) (λ _ e. absurd (codes-differ tooLittleRoom listRun refl e))) (λ _ e. absurd (codes-differ cutShort listRun refl e))
   where
     Each : Listed → Type 0
-    Each l = l .code ≡ pos 0 → (i : ℕ) → i < callsIn cs → shownIn m cs (l .places) i ≡ callOf (ranOf i m cs) (callIn cs i)
-
-    not-0 : (n : ℕ) → eqb n 0 ≡ false → pos n ≡ pos 0 → ⊥
-    not-0 n h e = let z : n ≡ 0 = cc in eqb-false n 0 h z
+    Each l = l .code ≡ listRun → (i : ℕ) → i < callsIn cs → shownIn m cs (l .places) i ≡ callOf (ranOf i m cs) (callIn cs i)
 
 -- a refused call inside a list is what a refused call is, and the calls after it go on from there
-pub list-refusal-law : (m : Monitor) (cs : List ℕ) (out : List ℤ) → listOf m cs out .code ≡ pos 0 → (i : ℕ) → i < callsIn cs
+pub list-refusal-law : (m : Monitor) (cs : List ℕ) (out : List ℤ) → listOf m cs out .code ≡ listRun → (i : ℕ) → i < callsIn cs
     → isRefusal (shownIn m cs (listOf m cs out .places) i .answer .code) ≡ true → Refused (ranOf i m cs) (callIn cs i) (shownIn m cs (listOf m cs out .places) i)
 list-refusal-law m cs out e i h =
     subst (λ (s : Stepped). isRefusal (s .answer .code) ≡ true → Refused (ranOf i m cs) (callIn cs i) s)

@@ -1,6 +1,8 @@
 pub mod Changes
+pub mod Codes
 pub mod Fine
 pub mod Logic
+pub mod Tables
 pub mod Looks
 pub mod Parties
 pub mod Sound

@@ -15,8 +15,7 @@ use Rattle.rules.specs.Transaction.{servedTx, txOf}
 use Rattle.rules.specs.declared.Link.{Link}
 use Rattle.rules.specs.declared.Monitor.{Monitor}
 use Rattle.rules.proofs.Logic.{Nz, test, byTest, not-both, same-refl, same-true, same-false, same-ne, zero-nz}
-use Rattle.rules.proofs.Fine.{look, Between, Frame, Fine}
-use Rattle.rules.proofs.History.Moves.{noLink, txP}
+use Rattle.rules.proofs.Fine.{noLink, txP, look, Between, Frame, Fine}
 
 -- ---- rising numbers
 pub between-le : (lo hi : ℕ) (ls : List Link) → Between lo ls hi → lo ≤ hi

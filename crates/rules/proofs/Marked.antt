@@ -1,11 +1,10 @@
 -- The drill cases that document 01 marks, in one table: each list of calls, run on a fresh monitor, ends as it says.
--- One test is computed over the whole table, and one lemma turns it into the facts of each entry.
+-- One test is computed over the whole table, and the law of tables turns it into the facts of each entry.
 -- Assumes nothing.
-use mathlib.Core.Path.{_≡_, refl, ap}
+use mathlib.Core.Path.{_≡_, refl}
 use mathlib.Core.Bool.{Bool, true, _&&_}
 use mathlib.Core.List.{List, [], _∷_, _++_}
-use Prim.Native.Nat.{ℕ, zero, suc, _-_, _<_}
-use native.Mathlib.Nat.{le-of-suc-le-suc, not-suc-le-zero}
+use Prim.Native.Nat.{ℕ, _-_, _<_}
 use lib.Dec.{eqb}
 use lib.IntN.{ℤ, pos, negsuc}
 use lib.ListN.{length, getD, replicate}
@@ -25,6 +24,8 @@ use Rattle.rules.specs.Step.{ruleOf, laterOf, told, turnedDown, callOf}
 use Rattle.rules.specs.Run.{callAt, placesOf, ranOf, answersOf, Listed, listOf}
 use Rattle.rules.specs.History.{sameCode}
 use Rattle.rules.proofs.Logic.{and-l, and-r}
+use Rattle.rules.proofs.Codes.{same-code}
+use Rattle.rules.proofs.Tables.{every, entry}
 
 -- Calls as numbers, six to each; the code of the last one's answer; the record's clock afterwards.
 pub record Example : Type 0 where
@@ -109,17 +110,7 @@ pub record Holds (e : Example) : Type 0 where
 right : Example → Bool
 right e = sameCode (drilled e .code) (pos 0) && (sameCode (lastCode e) (e .code) && eqb (drilled e .monitor .clock) (e .clock))
 
-every : List Example → Bool
-every [] = true
-every (e ∷ es) = right e && every es
-
 -- ---- what it shows
-same-code : (x y : ℤ) → sameCode x y ≡ true → x ≡ y
-same-code (pos m) (pos n) h = ap pos (eqb-true m n h)
-same-code (pos m) (negsuc n) h = cc
-same-code (negsuc m) (pos n) h = cc
-same-code (negsuc m) (negsuc n) h = ap negsuc (eqb-true m n h)
-
 holds-right : (e : Example) → right e ≡ true → Holds e
 unfolding right
 holds-right e h =
@@ -130,12 +121,6 @@ holds-right e h =
       leaves = eqb-true _ _ (and-r (sameCode (lastCode e) (e .code)) _ later);
     }
 
-table-holds : (es : List Example) → every es ≡ true → (k : ℕ) → k < length es → Holds (getD es k freshBegin)
-unfolding every
-table-holds [] t k h = absurd (not-suc-le-zero h)
-table-holds (e ∷ es) t zero h = holds-right e (and-l _ _ t)
-table-holds (e ∷ es) t (suc k) h = table-holds es (and-r (right e) _ t) k (le-of-suc-le-suc h)
-
 pub marked-holds : (k : ℕ) → k < length marked → Holds (getD marked k freshBegin)
 unfolding every right pick same noBegin firstOf anyOf collect blanks numbered owns ownEnd linkOf changed goneOf removed servedTx txOf ended expired isOwner deadlineOf beginTx orphaned endOf endTx isOpenOf canCommit stateOf nextOf inState entered openOf closeOf beginOf goOn commitCode commitOf timeoutOf inSet offers countTo offered withService offersNow advertiseOf linkTx askLink requestOf connectOf requestEnd cancelOf originatorEnd serverEnd anyEnd hearsCut hearsReturn endSide holds sendOn sendOf linksGood worksFor partyGood partiesGood sound ruleOf laterOf told turnedDown callOf callAt placesOf ranOf answersOf listOf
-marked-holds = table-holds marked refl
+marked-holds k h = holds-right (getD marked k freshBegin) (entry right freshBegin marked refl k h)

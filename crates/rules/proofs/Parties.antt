@@ -11,8 +11,8 @@ use lib.Seq.{getD-set-same, getD-set-other}
 use borrow.Author.Tests.{eqb-true, eqb-false, ltb-true, ltb-false, ne-eqb}
 use Rattle.rules.specs.Choice.{pick, same}
 use Rattle.rules.specs.Lists.{firstOf, anyOf}
-use Rattle.rules.specs.Record.{freshParty, isRollbackOnly, owns, ownEnd, party, withParty}
-use Rattle.rules.specs.Transaction.{txOf, ownerOf, ownerParty, ended, isOwner, rollbackOnly, doomedIn}
+use Rattle.rules.specs.Record.{freshParty, isRollbackOnly, owns, ownEnd, party, rollbackOnly, withParty}
+use Rattle.rules.specs.Transaction.{txOf, ownerOf, ownerParty, ended, isOwner, doomedIn}
 use Rattle.rules.specs.Conversations.{originatorEnd}
 use Rattle.rules.specs.Return.{doomedBy}
 use Rattle.rules.specs.Sound.{choicesGood}
@@ -20,8 +20,7 @@ use Rattle.rules.specs.declared.Link.{Link}
 use Rattle.rules.specs.declared.Party.{Party}
 use Rattle.rules.specs.declared.Monitor.{Monitor}
 use Rattle.rules.proofs.Logic.{Nz, pick-true, pick-false, and-l, not-true, not-false, test, byTest, not-both, same-refl, same-true, same-false, same-ne, and-r}
-use Rattle.rules.proofs.Fine.{look, Between, Shape, Frame}
-use Rattle.rules.proofs.History.Moves.{noLink}
+use Rattle.rules.proofs.Fine.{noLink, look, Between, Shape, Frame}
 use Rattle.rules.proofs.Looks.{look-below}
 use Rattle.rules.proofs.Changes.{parties-frame}
 

@@ -3,11 +3,9 @@
 use mathlib.Core.Path.{_≡_, refl, sym, ap, _∙_}
 use mathlib.Core.Bool.{Bool, true, false, not, _&&_, _||_}
 use Prim.Native.Nat.{ℕ}
-use lib.Dec.{eqb}
-use lib.IntN.{ℤ, pos, negsuc}
-use borrow.Author.Tests.{eqb-true}
+use lib.IntN.{ℤ}
 use Rattle.rules.specs.Choice.{pick}
-use Rattle.rules.specs.Codes.{noBegin}
+use Rattle.rules.specs.Codes.{txOk, txProtocolError, txError, txEinval, noBegin, unsound, unknownKind, unknownParty, badArgument, notAllowedNow, noSuchEnd, notOffered, noRoomLeft, inTransaction, timedOut, nothingWaiting, noReplyYet, nothingUnread, unreadFull}
 use Rattle.rules.specs.Record.{linkOf, ruled}
 use Rattle.rules.specs.Transaction.{servedTx, txOf}
 use Rattle.rules.specs.Tx.{openOf, closeOf, beginOf, goOn, commitCode, commitOf, rollbackOf, infoOf, commitReturnOf, controlOf, timeoutOf}
@@ -21,12 +19,16 @@ use Rattle.rules.specs.declared.Call.{Call}
 use Rattle.rules.specs.declared.Monitor.{Monitor}
 use Rattle.rules.specs.declared.Ruled.{Ruled}
 use Rattle.rules.specs.declared.Stepped.{Stepped}
-use Rattle.rules.proofs.Logic.{byTest, not-both, pick-true, pick-false, test, and-l, and-r, not-true, or-true, or-cases}
+use Rattle.rules.proofs.Logic.{byTest, not-both, pick-true, pick-false, and-l, and-r, not-true, or-l, or-r, or-true}
 use Rattle.rules.proofs.ByKind.{OfEachKind, by-kind}
+
+-- the code of a call that was carried out: no refusal, and past question 21
+abbrev isCarried : ℤ → Bool
+isCarried z = isOutcome z && not (isRefusal z || isEarly z)
 
 -- a rule of the record m is carried out, or refuses: with a number past question 21, zeros, and the record m
 data Decided (m : Monitor) (r : Ruled) : Type 0 where
-  does : isOutcome (r .code) && not (isRefusal (r .code)) ≡ true → Decided m r
+  does : isCarried (r .code) ≡ true → Decided m r
   refuses : isRefusal (r .code) && not (isEarly (r .code)) ≡ true → r ≡ ruled m (r .code) → Decided m r
 
 -- ---- questions and other choices
@@ -38,131 +40,130 @@ no code h = refuses h refl
 
 -- ---- the kinds
 -- the codes of a commit that was carried out, with and without a new transaction
-commit-carried : (b : Bool) → isOutcome (commitCode b) && not (isRefusal (commitCode b)) ≡ true
-unfolding isOutcome isRefusal commitCode
-commit-carried b = byTest (λ z. isOutcome z && not (isRefusal z) ≡ true) (λ _. refl) (λ _. refl)
+commit-carried : (b : Bool) → isCarried (commitCode b) ≡ true
+unfolding isOutcome isRefusal isEarly commitCode
+commit-carried b = byTest (λ z. isCarried z ≡ true) (λ _. refl) (λ _. refl)
 
-no-begin-carried : (b : Bool) → isOutcome (noBegin (commitCode b)) && not (isRefusal (noBegin (commitCode b))) ≡ true
-unfolding isOutcome isRefusal commitCode noBegin
-no-begin-carried b = byTest (λ z. isOutcome (noBegin z) && not (isRefusal (noBegin z)) ≡ true) (λ _. refl) (λ _. refl)
+no-begin-carried : (b : Bool) → isCarried (noBegin (commitCode b)) ≡ true
+unfolding isOutcome isRefusal isEarly commitCode noBegin
+no-begin-carried b = byTest (λ z. isCarried (noBegin z) ≡ true) (λ _. refl) (λ _. refl)
 
-reply-carried : (o : ℕ) → isOutcome (outcomeCode o) && not (isRefusal (outcomeCode o)) ≡ true
-unfolding isOutcome isRefusal outcomeCode
-reply-carried o = byTest (λ z. isOutcome z && not (isRefusal z) ≡ true) (λ _. refl)
-    (λ _. byTest (λ z. isOutcome z && not (isRefusal z) ≡ true) (λ _. refl) (λ _. refl))
+reply-carried : (o : ℕ) → isCarried (outcomeCode o) ≡ true
+unfolding isOutcome isRefusal isEarly outcomeCode
+reply-carried o = byTest (λ z. isCarried z ≡ true) (λ _. refl) (λ _. byTest (λ z. isCarried z ≡ true) (λ _. refl) (λ _. refl))
 
 go-on : (m m₀ : Monitor) (p next : ℕ) (b : Bool) → Decided m (goOn m₀ p next (commitCode b))
 unfolding goOn
 go-on m m₀ p next b = asks (λ _. asks (λ _. does (commit-carried b)) (λ _. does (no-begin-carried b))) (λ _. does (commit-carried b))
 
-roll-on : (m m₀ : Monitor) (p next : ℕ) → Decided m (goOn m₀ p next (pos 0))
+roll-on : (m m₀ : Monitor) (p next : ℕ) → Decided m (goOn m₀ p next txOk)
 unfolding commitCode pick
 roll-on m m₀ p next = go-on m m₀ p next true
 
 module _ (m : Monitor) (p : ℕ) where
   open-decided : Decided m (openOf m p)
   unfolding openOf isOutcome isRefusal isEarly
-  open-decided = asks (λ _. does refl) (λ _. no (negsuc 4) refl)
+  open-decided = asks (λ _. does refl) (λ _. no txProtocolError refl)
 
   close-decided : Decided m (closeOf m p)
   unfolding closeOf isOutcome isRefusal isEarly
-  close-decided = asks (λ _. does refl) (λ _. no (negsuc 4) refl)
+  close-decided = asks (λ _. does refl) (λ _. no txProtocolError refl)
 
   begin-decided : Decided m (beginOf m p)
   unfolding beginOf isOutcome isRefusal isEarly
-  begin-decided = asks (λ _. asks (λ _. does refl) (λ _. no (negsuc 5) refl)) (λ _. no (negsuc 4) refl)
+  begin-decided = asks (λ _. asks (λ _. does refl) (λ _. no txError refl)) (λ _. no txProtocolError refl)
 
   commit-decided : Decided m (commitOf m p)
   unfolding commitOf isOutcome isRefusal isEarly
-  commit-decided = asks (λ _. asks (λ _. go-on m _ p _ _) (λ _. no (negsuc 4) refl)) (λ _. no (negsuc 4) refl)
+  commit-decided = asks (λ _. asks (λ _. go-on m _ p _ _) (λ _. no txProtocolError refl)) (λ _. no txProtocolError refl)
 
   rollback-decided : Decided m (rollbackOf m p)
   unfolding rollbackOf isOutcome isRefusal isEarly
-  rollback-decided = asks (λ _. asks (λ _. roll-on m _ p _) (λ _. no (negsuc 4) refl)) (λ _. no (negsuc 4) refl)
+  rollback-decided = asks (λ _. asks (λ _. roll-on m _ p _) (λ _. no txProtocolError refl)) (λ _. no txProtocolError refl)
 
   info-decided : Decided m (infoOf m p)
   unfolding infoOf isOutcome isRefusal isEarly
-  info-decided = asks (λ _. asks (λ _. does refl) (λ _. does refl)) (λ _. no (negsuc 4) refl)
+  info-decided = asks (λ _. asks (λ _. does refl) (λ _. does refl)) (λ _. no txProtocolError refl)
 
   offers-decided : (s : ℕ) → Decided m (offersNow m p s)
-  unfolding offersNow isOutcome isRefusal
+  unfolding offersNow isOutcome isRefusal isEarly
   offers-decided s = does refl
 
   dispatch-decided : Decided m (dispatchOf m p)
   unfolding dispatchOf dispatched isOutcome isRefusal isEarly
-  dispatch-decided = asks (λ _. asks (λ _. does refl) (λ _. no (pos 32) refl)) (λ _. no (pos 23) refl)
+  dispatch-decided = asks (λ _. asks (λ _. does refl) (λ _. no nothingWaiting refl)) (λ _. no notAllowedNow refl)
 
   terminate-decided : Decided m (terminateOf m p)
-  unfolding terminateOf isOutcome isRefusal
+  unfolding terminateOf isOutcome isRefusal isEarly
   terminate-decided = does refl
 
   module _ (a : ℕ) where
     commit-return-decided : Decided m (commitReturnOf m p a)
     unfolding commitReturnOf isOutcome isRefusal isEarly
-    commit-return-decided = asks (λ _. asks (λ _. asks (λ _. does refl) (λ _. does refl)) (λ _. no (negsuc 7) refl)) (λ _. no (negsuc 4) refl)
+    commit-return-decided = asks (λ _. asks (λ _. asks (λ _. does refl) (λ _. does refl)) (λ _. no txEinval refl)) (λ _. no txProtocolError refl)
 
     control-decided : Decided m (controlOf m p a)
     unfolding controlOf isOutcome isRefusal isEarly
-    control-decided = asks (λ _. asks (λ _. does refl) (λ _. no (negsuc 7) refl)) (λ _. no (negsuc 4) refl)
+    control-decided = asks (λ _. asks (λ _. does refl) (λ _. no txEinval refl)) (λ _. no txProtocolError refl)
 
     timeout-decided : Decided m (timeoutOf m p a)
     unfolding timeoutOf isOutcome isRefusal isEarly
-    timeout-decided = asks (λ _. asks (λ _. does refl) (λ _. no (negsuc 7) refl)) (λ _. no (negsuc 4) refl)
+    timeout-decided = asks (λ _. asks (λ _. does refl) (λ _. no txEinval refl)) (λ _. no txProtocolError refl)
 
     advertise-decided : Decided m (advertiseOf m p a)
     unfolding advertiseOf isOutcome isRefusal isEarly
-    advertise-decided = asks (λ _. asks (λ _. offers-decided _) (λ _. no (pos 26) refl)) (λ _. no (pos 22) refl)
+    advertise-decided = asks (λ _. asks (λ _. offers-decided _) (λ _. no noRoomLeft refl)) (λ _. no badArgument refl)
 
     unadvertise-decided : Decided m (unadvertiseOf m p a)
     unfolding unadvertiseOf isOutcome isRefusal isEarly
-    unadvertise-decided = asks (λ _. asks (λ _. offers-decided _) (λ _. no (pos 25) refl)) (λ _. no (pos 22) refl)
+    unadvertise-decided = asks (λ _. asks (λ _. offers-decided _) (λ _. no notOffered refl)) (λ _. no badArgument refl)
 
     link-decided : (t : ℕ) {rest : Ruled} → Decided m rest → Decided m (askLink m t a rest)
     unfolding askLink isRefusal isEarly
     link-decided t d =
         asks (λ _. asks (λ _. asks (λ _. asks (λ _. d)
-        (λ _. no (pos 26) refl)) (λ _. no (pos 25) refl)) (λ _. no (pos 28) refl)) (λ _. no (pos 23) refl)
+        (λ _. no noRoomLeft refl)) (λ _. no notOffered refl)) (λ _. no timedOut refl)) (λ _. no notAllowedNow refl)
 
     fetch-decided : Decided m (fetchOf m p a)
     unfolding fetchOf fetched isOutcome isRefusal isEarly
     fetch-decided =
         asks (λ _. asks (λ _. asks (λ _. does (reply-carried _))
-        (λ _. no (pos 32) refl)) (λ _. no (pos 28) refl)) (λ _. no (pos 24) refl)
+        (λ _. no noReplyYet refl)) (λ _. no timedOut refl)) (λ _. no noSuchEnd refl)
 
     cancel-decided : Decided m (cancelOf m p a)
     unfolding cancelOf isOutcome isRefusal isEarly
-    cancel-decided = asks (λ _. asks (λ _. does refl) (λ _. no (pos 27) refl)) (λ _. no (pos 24) refl)
+    cancel-decided = asks (λ _. asks (λ _. does refl) (λ _. no inTransaction refl)) (λ _. no noSuchEnd refl)
 
     receive-decided : Decided m (receiveOf m p a)
     unfolding receiveOf receiveOn received tellsCut tellsReturn isOutcome isRefusal isEarly
     receive-decided =
         asks (λ _. asks (λ _. asks (λ _. does refl) (λ _. asks (λ _. does refl)
         (λ _. asks (λ _. asks (λ _. asks (λ _. does refl) (λ _. does refl))
-        (λ _. no (pos 32) refl)) (λ _. no (pos 23) refl)))) (λ _. no (pos 28) refl)) (λ _. no (pos 24) refl)
+        (λ _. no nothingUnread refl)) (λ _. no notAllowedNow refl)))) (λ _. no timedOut refl)) (λ _. no noSuchEnd refl)
 
     disconnect-decided : Decided m (disconnectOf m p a)
     unfolding disconnectOf isOutcome isRefusal isEarly
-    disconnect-decided = asks (λ _. does refl) (λ _. no (pos 24) refl)
+    disconnect-decided = asks (λ _. does refl) (λ _. no noSuchEnd refl)
 
     return-decided : (c : ℕ) → Decided m (returnOf m p a c)
     unfolding returnOf returnWith isOutcome isRefusal isEarly
-    return-decided c = asks (λ _. asks (λ _. does refl) (λ _. no (pos 22) refl)) (λ _. no (pos 23) refl)
+    return-decided c = asks (λ _. asks (λ _. does refl) (λ _. no badArgument refl)) (λ _. no notAllowedNow refl)
 
     module _ (b c : ℕ) where
       request-decided : Decided m (requestOf m p a b c)
       unfolding requestOf isOutcome isRefusal isEarly
-      request-decided = asks (λ _. link-decided _ (does refl)) (λ _. no (pos 22) refl)
+      request-decided = asks (λ _. link-decided _ (does refl)) (λ _. no badArgument refl)
 
       connect-decided : Decided m (connectOf m p a b c)
       unfolding connectOf isOutcome isRefusal isEarly
-      connect-decided = asks (λ _. link-decided _ (does refl)) (λ _. no (pos 22) refl)
+      connect-decided = asks (λ _. link-decided _ (does refl)) (λ _. no badArgument refl)
 
       send-decided : Decided m (sendOf m p a b c)
       unfolding sendOf sendOn tellsCut tellsReturn isOutcome isRefusal isEarly
       send-decided =
           asks (λ _. asks (λ _. asks (λ _. asks (λ _. does refl) (λ _. asks (λ _. does refl)
           (λ _. asks (λ _. asks (λ _. does refl)
-          (λ _. no (pos 32) refl)) (λ _. no (pos 23) refl)))) (λ _. no (pos 28) refl)) (λ _. no (pos 22) refl)) (λ _. no (pos 24) refl)
+          (λ _. no unreadFull refl)) (λ _. no notAllowedNow refl)))) (λ _. no timedOut refl)) (λ _. no badArgument refl)) (λ _. no noSuchEnd refl)
 
       each-decided : (k : ℕ) → OfEachKind (Decided m) m p k a b c
       each-decided k = record {
@@ -190,15 +191,11 @@ module _ (m : Monitor) (p : ℕ) where
       }
 
 -- ---- past question 21
-early-refuses : (code : ℤ) → isEarly code ≡ true → isRefusal code ≡ true
-unfolding isEarly isRefusal
-early-refuses (pos n) e =
-    or-cases (eqb 19 n) _ e (λ x. rw (← eqb-true 19 n x))
-    (λ f. or-cases (eqb 20 n) _ f (λ x. rw (← eqb-true 20 n x)) (λ x. rw (← eqb-true 21 n x)))
-early-refuses (negsuc n) e = not-both e refl
+carried-neither : (z : ℤ) → isCarried z ≡ true → (isRefusal z ≡ false) × (isEarly z ≡ false)
+carried-neither z f = let n = not-true _ (and-r (isOutcome z) _ f) in (or-l _ _ n, or-r (isRefusal z) _ n)
 
 decided-past : {m : Monitor} {r : Ruled} → Decided m r → isEarly (r .code) ≡ false
-decided-past {m} {r} (does f) = test (isEarly (r .code)) (λ e. not-both (early-refuses (r .code) e) (not-true _ (and-r (isOutcome (r .code)) _ f))) (λ n. n)
+decided-past {m} {r} (does f) = carried-neither (r .code) f .1
 decided-past {m} {r} (refuses f e) = not-true _ (and-r (isRefusal (r .code)) _ f)
 
 rule-decided : (m : Monitor) (p k a b c : ℕ) → isKind k ≡ true → Decided m (ruleOf m p k a b c)
@@ -218,7 +215,7 @@ told-lawful : (m : Monitor) (c : Call) (r : Ruled) → Decided (advanced m (c .c
 unfolding told txOf servedTx linkOf
 told-lawful m c r (does f) = record {
   known = rw (and-l (isOutcome (r .code)) _ f, or-true);
-  refused = λ y. not-both y (not-true _ (and-r (isOutcome (r .code)) _ f));
+  refused = λ y. not-both y (carried-neither (r .code) f .0);
 }
 told-lawful m c r (refuses f e) = record {
   known = rw (and-l (isRefusal (r .code)) _ f);
@@ -254,12 +251,12 @@ unfolding callOf isRefusal isEarly
 call-lawful m c = byTest (Lawful m c)
     (λ k. byTest (Lawful m c)
     (λ _. told-lawful m c _ (rule-decided (advanced m (c .clock)) (c .party) (c .kind) (c .a) (c .b) (c .c) k))
-    (λ _. turned-down-lawful m c (pos 21) refl refl))
-    (λ _. turned-down-lawful m c (pos 20) refl refl)
+    (λ _. turned-down-lawful m c unknownParty refl refl))
+    (λ _. turned-down-lawful m c unknownKind refl refl)
 
 step-lawful : (m : Monitor) (c : Call) → Lawful m c (stepOf m c)
 unfolding stepOf isRefusal isEarly
-step-lawful m c = byTest (Lawful m c) (λ _. call-lawful m c) (λ _. turned-down-lawful m c (pos 19) refl refl)
+step-lawful m c = byTest (Lawful m c) (λ _. call-lawful m c) (λ _. turned-down-lawful m c unsound refl refl)
 
 -- every refusal, of every record, is what document 01 says of one
 pub refusal-law : (m : Monitor) (c : Call) → isRefusal (stepOf m c .answer .code) ≡ true → Refused m c (stepOf m c)

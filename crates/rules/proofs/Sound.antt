@@ -9,18 +9,17 @@ use lib.Dec.{eqb, ltb, leb}
 use lib.ListN.{getD}
 use borrow.Author.Tests.{ltb-true, leb-true, lt-ltb, le-leb}
 use Rattle.rules.specs.Choice.{pick, same}
-use Rattle.rules.specs.Record.{freshParty, freshMonitor, isWorking, party, live, linkOf, withClock}
+use Rattle.rules.specs.Record.{freshParty, freshMonitor, isWorking, party, live, linkOf, working, withClock}
 use Rattle.rules.specs.Sound.{linkGood, choicesGood, linksGood, worksFor, partyGood, partiesGood, sound}
-use Rattle.rules.specs.Requests.{working}
 use Rattle.rules.specs.declared.Call.{Call}
 use Rattle.rules.specs.declared.Link.{Link}
 use Rattle.rules.specs.declared.Party.{Party}
 use Rattle.rules.specs.declared.Monitor.{Monitor}
 use Rattle.rules.specs.declared.Ruled.{Ruled}
 use Rattle.rules.proofs.Logic.{Nz, pick-true, pick-false, test, byTest, not-both, same-refl, same-true, same-ne, and-l, and-r, and-true, byNumber}
-use Rattle.rules.proofs.Fine.{look, Between, Shape, Fine}
+use Rattle.rules.proofs.Fine.{noLink, look, Between, Shape, Fine}
 use Rattle.rules.proofs.Looks.{look-below, look-next, linkOf-look, look-linkOf}
-use Rattle.rules.proofs.History.Moves.{noLink, Like, Left, alike, gone, shut, back, Idle, Ends, Begins, Makes, Takes, Move, quiet, sends, grants, finishes, cancels, hangs, leaves, ends, begins, renews, makes, makesFree, takes}
+use Rattle.rules.proofs.History.Moves.{Like, Left, alike, gone, shut, back, Idle, Ends, Begins, Makes, Takes, Move, quiet, sends, grants, finishes, cancels, hangs, leaves, ends, begins, renews, makes, makesFree, takes}
 use Rattle.rules.proofs.History.Left.{fades-works}
 use Rattle.rules.proofs.History.Tells.{Tell}
 use Rattle.rules.proofs.History.Walk.Moved.{Moved}

@@ -1,6 +1,5 @@
 -- The answers' numbers, by meaning.
 -- Assumes nothing.
-use Prim.Native.Nat.{ℕ}
 use lib.IntN.{ℤ, pos, negsuc, _-ℤ_}
 
 -- ---- TX (document 002)
@@ -9,6 +8,13 @@ txOk = pos 0
 
 abbrev pub txNotSupported : ℤ
 txNotSupported = pos 1
+
+-- tx_info: is the caller in a transaction
+abbrev pub txInfoOutside : ℤ
+txInfoOutside = pos 0
+
+abbrev pub txInfoInside : ℤ
+txInfoInside = pos 1
 
 abbrev pub txRollback : ℤ
 txRollback = negsuc 1
@@ -25,6 +31,10 @@ txEinval = negsuc 7
 -- TX_NO_BEGIN and its kin: the transaction is over as the code says, and no new one could begin
 unfoldable pub noBegin : ℤ → ℤ
 noBegin code = code -ℤ pos 100
+
+-- ---- a list of calls was run
+abbrev pub listRun : ℤ
+listRun = pos 0
 
 -- ---- refusals of a list, a record or a call
 abbrev pub tooLittleRoom : ℤ

@@ -1,13 +1,12 @@
 -- Kinds 17 to 19: send, receive and disconnect on a conversation.
 -- Assumes nothing.
-use Prim.Native.Nat.{ℕ, _+_, _-_}
-use mathlib.Core.List.{List, [], _∷_, _++_}
-use mathlib.Core.Bool.{Bool, true, false, not, _&&_, _||_}
-use lib.ListN.{getD, set, drop}
+use Prim.Native.Nat.{ℕ}
+use mathlib.Core.Bool.{Bool, not, _&&_, _||_}
+use lib.ListN.{getD}
 use lib.Dec.{eqb, ltb, leb}
 use Rattle.rules.specs.Choice.{pick, same}
 use Rattle.rules.specs.Codes.{badArgument, notAllowedNow, noSuchEnd, timedOut, nothingUnread, unreadFull, accepted, tpeEvent}
-use Rattle.rules.specs.Record.{isConversation, isWorking, isReturned, isDisconnected, isNotified, ownEnd, linkOf, changed, removed, cutOff, valued, ask}
+use Rattle.rules.specs.Record.{isConversation, isWorking, isReturned, isDisconnected, isNotified, ownEnd, linkOf, cutOff, notified, withSent, withoutOldest, changed, removed, valued, ask}
 use Rattle.rules.specs.Transaction.{expired, doom}
 use Rattle.rules.specs.declared.Ruled.{Ruled}
 use Rattle.rules.specs.declared.Link.{Link}
@@ -43,9 +42,6 @@ unfoldable pub holds : ℕ → Link → Bool
 holds p l = same (l .sender) (endSide p l)
 
 -- ---- what the end's party is told
-abbrev pub notified : Link → Link
-notified l = record { number = l .number; kind = l .kind; originator = l .originator; attached = l .attached; service = l .service; tx = l .tx; state = l .state; server = l .server; first = l .first; outcome = l .outcome; ending = l .ending; sender = l .sender; granting = l .granting; disconnected = 2; unread = l .unread; filled = l .filled }
-
 -- "29, event 1, and is told"
 unfoldable pub tellsCut : Monitor → ℕ → Link → Ruled
 tellsCut m a l = record { monitor = changed m a (notified l); code = tpeEvent; value = 0; event = 1; token = 0; service = 0 }
@@ -55,10 +51,6 @@ unfoldable pub tellsReturn : Monitor → ℕ → Link → Ruled
 tellsReturn m a l = record { monitor = removed m a; code = tpeEvent; value = 0; event = l .outcome; token = l .ending; service = 0 }
 
 -- ---- 17 send
--- a token more, and with b = 1 the grant under way
-abbrev pub withSent : Link → ℕ → ℕ → Link
-withSent l b c = record { number = l .number; kind = l .kind; originator = l .originator; attached = l .attached; service = l .service; tx = l .tx; state = l .state; server = l .server; first = l .first; outcome = l .outcome; ending = l .ending; sender = l .sender; granting = b; disconnected = l .disconnected; unread = set (l .unread) (l .filled) c; filled = l .filled + 1 }
-
 unfoldable pub sendOn : Monitor → ℕ → ℕ → ℕ → ℕ → Link → Ruled
 sendOn m p a b c l =
     ask m (anyEnd p l) noSuchEnd
@@ -78,10 +70,6 @@ sendOf m p a b c = sendOn m p a b c (linkOf m a)
 -- "if it carries the hand-over (the last unread while the mark is set)"
 unfoldable pub carriesGrant : Link → Bool
 carriesGrant l = eqb (l .filled) 1 && eqb (l .granting) 1
-
--- the oldest token gone
-abbrev pub withoutOldest : Link → ℕ → ℕ → Link
-withoutOldest l sender granting = record { number = l .number; kind = l .kind; originator = l .originator; attached = l .attached; service = l .service; tx = l .tx; state = l .state; server = l .server; first = l .first; outcome = l .outcome; ending = l .ending; sender = sender; granting = granting; disconnected = l .disconnected; unread = drop 1 (l .unread) ++ (0 ∷ []); filled = l .filled - 1 }
 
 -- "The oldest token comes with 0, or, if it carries the hand-over, 29 and event 32 (SENDONLY); the holder changes and the mark clears."
 unfoldable pub received : Monitor → ℕ → ℕ → Link → Ruled

@@ -1,6 +1,5 @@
 -- When two monitors are both sound and equal.
 -- Assumes nothing.
-use Prim.Native.Nat.{ℕ}
 use mathlib.Core.List.{List, [], _∷_}
 use mathlib.Core.Bool.{Bool, true, false, _&&_}
 use Rattle.rules.specs.Choice.{pick, same}

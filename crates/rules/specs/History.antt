@@ -45,9 +45,13 @@ withValue v e = eqb (e .answer .value) v
 unfoldable pub withEvent : ℕ → Event → Bool
 withEvent v e = eqb (e .answer .event) v
 
+-- the codes of a call that is not past question 21
+abbrev pub unheard : ℤ → Bool
+unheard z = sameCode (pos 19) z || (sameCode (pos 20) z || sameCode (pos 21) z)
+
 -- past question 21: not refused by 19, 20 or 21
 unfoldable pub past21 : Event → Bool
-past21 e = not (answeredBy (pos 19) e || (answeredBy (pos 20) e || answeredBy (pos 21) e))
+past21 e = not (unheard (e .answer .code))
 
 -- "Accepted is code 0."
 unfoldable pub accepted : Event → Bool

@@ -1,12 +1,13 @@
 -- The monitor's record: what is fresh, readers, look-ups, changes.
 -- Assumes nothing.
-use Prim.Native.Nat.{ℕ, _+_}
+use Prim.Native.Nat.{ℕ, _+_, _-_}
 use mathlib.Core.List.{List, [], _∷_, _++_}
-use mathlib.Core.Bool.{Bool, true, false, not, _&&_}
+use mathlib.Core.Bool.{Bool, not, _&&_}
 use lib.ListN.{length, set, getD, take, drop, replicate}
 use lib.Dec.{eqb, ltb}
-use lib.IntN.{ℤ, pos}
+use lib.IntN.{ℤ}
 use Rattle.rules.specs.Choice.{pick, same}
+use Rattle.rules.specs.Codes.{accepted}
 use Rattle.rules.specs.Lists.{firstOf, collect}
 use Rattle.rules.specs.declared.Ruled.{Ruled}
 use Rattle.rules.specs.declared.Party.{Party}
@@ -93,23 +94,125 @@ placeOf m n = firstOf (numbered n) (live m)
 unfoldable pub linkOf : Monitor → ℕ → Link
 linkOf m n = getD (live m) (placeOf m n) freshLink
 
+-- ---- what all changes are made of: each writes the fields of one topic out, and the others stay
+-- a party: what it has set; the transaction and the link that it works for
+abbrev pub withSettings : Party → (opened control timeout services : ℕ) → Party
+withSettings q opened control timeout services = record { opened = opened; control = control; timeout = timeout; services = services; owned = q .owned; deadline = q .deadline; rollbackonly = q .rollbackonly; served = q .served }
+
+abbrev pub withWork : Party → (owned deadline rollbackonly served : ℕ) → Party
+withWork q owned deadline rollbackonly served = record { opened = q .opened; control = q .control; timeout = q .timeout; services = q .services; owned = owned; deadline = deadline; rollbackonly = rollbackonly; served = served }
+
+-- a link: what it is made with; how far its service is; its ends; who may send, and what is unread
+abbrev pub withOrigin : Link → (number kind originator service tx first : ℕ) → Link
+withOrigin l number kind originator service tx first = record { number = number; kind = kind; originator = originator; attached = l .attached; service = service; tx = tx; state = l .state; server = l .server; first = first; outcome = l .outcome; ending = l .ending; sender = l .sender; granting = l .granting; disconnected = l .disconnected; unread = l .unread; filled = l .filled }
+
+abbrev pub withProgress : Link → (state server outcome ending : ℕ) → Link
+withProgress l state server outcome ending = record { number = l .number; kind = l .kind; originator = l .originator; attached = l .attached; service = l .service; tx = l .tx; state = state; server = server; first = l .first; outcome = outcome; ending = ending; sender = l .sender; granting = l .granting; disconnected = l .disconnected; unread = l .unread; filled = l .filled }
+
+abbrev pub withEnds : Link → (attached disconnected : ℕ) → Link
+withEnds l attached disconnected = record { number = l .number; kind = l .kind; originator = l .originator; attached = attached; service = l .service; tx = l .tx; state = l .state; server = l .server; first = l .first; outcome = l .outcome; ending = l .ending; sender = l .sender; granting = l .granting; disconnected = disconnected; unread = l .unread; filled = l .filled }
+
+abbrev pub withUnread : Link → (sender granting : ℕ) → List ℕ → (filled : ℕ) → Link
+withUnread l sender granting unread filled = record { number = l .number; kind = l .kind; originator = l .originator; attached = l .attached; service = l .service; tx = l .tx; state = l .state; server = l .server; first = l .first; outcome = l .outcome; ending = l .ending; sender = sender; granting = granting; disconnected = l .disconnected; unread = unread; filled = filled }
+
+-- a monitor: its numbers; its parties and links
+abbrev pub withNumbers : Monitor → (clock lastlink lasttx : ℕ) → Monitor
+withNumbers m clock lastlink lasttx = record { clock = clock; lastlink = lastlink; lasttx = lasttx; parties = m .parties; links = m .links; count = m .count }
+
+abbrev pub withContents : Monitor → List Party → List Link → (count : ℕ) → Monitor
+withContents m parties links count = record { clock = m .clock; lastlink = m .lastlink; lasttx = m .lasttx; parties = parties; links = links; count = count }
+
+-- ---- changes of a party
+abbrev pub withTimeout : Party → ℕ → Party
+withTimeout q t = withSettings q (q .opened) (q .control) t (q .services)
+
+-- it offers the set s
+abbrev pub offering : Party → ℕ → Party
+offering q s = withSettings q (q .opened) (q .control) (q .timeout) s
+
+-- a transaction begins
+abbrev pub owning : Party → ℕ → ℕ → Party
+owning q t d = withWork q t d (q .rollbackonly) (q .served)
+
+-- one ends: "the party's owned transaction, deadline and doomed mark become 0"
+abbrev pub owningNone : Party → Party
+owningNone q = withWork q 0 0 0 (q .served)
+
+-- its transaction is doomed: it can only be rolled back
+abbrev pub rollbackOnly : Party → Party
+rollbackOnly q = withWork q (q .owned) (q .deadline) 1 (q .served)
+
+-- it serves the link d
+abbrev pub serving : Party → ℕ → Party
+serving q d = withWork q (q .owned) (q .deadline) (q .rollbackonly) d
+
+-- ---- changes of a link
+-- the originator's end closed
+abbrev pub closed : Link → Link
+closed l = withEnds l 0 (l .disconnected)
+
+-- unread dropped; "dropping unread clears it too", the grant
+abbrev pub dropped : Link → Link
+dropped l = withUnread l (l .sender) 0 (replicate 4 0) 0
+
+-- cut: "originator's end closed, unread dropped"
+abbrev pub cutOff : Link → Link
+cutOff l = withEnds (dropped l) 0 1
+
+-- its server is told that it was cut
+abbrev pub notified : Link → Link
+notified l = withEnds l (l .attached) 2
+
+-- "A new link is waiting, its originator the caller, service a, originator end otherwise open, first token c,
+-- holder the server under flag 8 and else the originator; its other fields are 0 or empty."
+abbrev pub newLink : (n kind p attached a t c sender : ℕ) → Link
+newLink n kind p attached a t c sender = withUnread (withEnds (withOrigin freshLink n kind p a t c) attached 0) sender 0 (replicate 4 0) 0
+
+-- party p works for it
+abbrev pub working : Link → ℕ → Link
+working l p = withProgress l 1 p (l .outcome) (l .ending)
+
+-- returned, with its outcome and its ending token
+abbrev pub returned : Link → ℕ → ℕ → Link
+returned l o e = withProgress l 2 (l .server) o e
+
+-- a token more, and with b = 1 the grant under way
+abbrev pub withSent : Link → ℕ → ℕ → Link
+withSent l b c = withUnread l (l .sender) b (set (l .unread) (l .filled) c) (l .filled + 1)
+
+-- the oldest token gone
+abbrev pub withoutOldest : Link → ℕ → ℕ → Link
+withoutOldest l sender granting = withUnread l sender granting (drop 1 (l .unread) ++ (0 ∷ [])) (l .filled - 1)
+
 -- ---- changes of the record
 abbrev pub withClock : Monitor → ℕ → Monitor
-withClock m t = record { clock = t; lastlink = m .lastlink; lasttx = m .lasttx; parties = m .parties; links = m .links; count = m .count }
+withClock m t = withNumbers m t (m .lastlink) (m .lasttx)
+
+abbrev pub withLastLink : Monitor → ℕ → Monitor
+withLastLink m d = withNumbers m (m .clock) d (m .lasttx)
+
+abbrev pub withLastTx : Monitor → ℕ → Monitor
+withLastTx m t = withNumbers m (m .clock) (m .lastlink) t
 
 abbrev pub withParties : Monitor → List Party → Monitor
-withParties m ps = record { clock = m .clock; lastlink = m .lastlink; lasttx = m .lasttx; parties = ps; links = m .links; count = m .count }
+withParties m ps = withContents m ps (m .links) (m .count)
 
 abbrev pub withParty : Monitor → ℕ → Party → Monitor
 withParty m p q = withParties m (set (m .parties) p q)
 
+abbrev pub withLinks : Monitor → List Link → Monitor
+withLinks m ls = withContents m (m .parties) ls (m .count)
+
+abbrev pub withCount : Monitor → ℕ → Monitor
+withCount m n = withContents m (m .parties) (m .links) n
+
 -- the room for links is rebuilt of those that are left: "a removed link's room serves again"
 abbrev pub rebuilt : Monitor → List Link → Monitor
-rebuilt m ls = record { clock = m .clock; lastlink = m .lastlink; lasttx = m .lasttx; parties = m .parties; links = ls ++ drop (length ls) blanks; count = length ls }
+rebuilt m ls = withContents m (m .parties) (ls ++ drop (length ls) blanks) (length ls)
 
 -- the link at a place becomes l
 abbrev pub replaced : Monitor → ℕ → Link → Monitor
-replaced m i l = record { clock = m .clock; lastlink = m .lastlink; lasttx = m .lasttx; parties = m .parties; links = set (m .links) i l; count = m .count }
+replaced m i l = withLinks m (set (m .links) i l)
 
 -- the link with the number n becomes l, in its place
 unfoldable pub changed : Monitor → ℕ → Link → Monitor
@@ -124,27 +227,14 @@ removed m n = rebuilt m (collect (goneOf n) (live m))
 
 -- a new link, with the next number
 abbrev pub added : Monitor → Link → Monitor
-added m l = record { clock = m .clock; lastlink = m .lastlink + 1; lasttx = m .lasttx; parties = m .parties; links = set (m .links) (m .count) l; count = m .count + 1 }
-
--- ---- changes of a link
--- the originator's end closed
-abbrev pub closed : Link → Link
-closed l = record { number = l .number; kind = l .kind; originator = l .originator; attached = 0; service = l .service; tx = l .tx; state = l .state; server = l .server; first = l .first; outcome = l .outcome; ending = l .ending; sender = l .sender; granting = l .granting; disconnected = l .disconnected; unread = l .unread; filled = l .filled }
-
--- cut: "originator's end closed, unread dropped"; "dropping unread clears it too", the grant
-abbrev pub cutOff : Link → Link
-cutOff l = record { number = l .number; kind = l .kind; originator = l .originator; attached = 0; service = l .service; tx = l .tx; state = l .state; server = l .server; first = l .first; outcome = l .outcome; ending = l .ending; sender = l .sender; granting = 0; disconnected = 1; unread = replicate 4 0; filled = 0 }
-
--- unread dropped
-abbrev pub dropped : Link → Link
-dropped l = record { number = l .number; kind = l .kind; originator = l .originator; attached = l .attached; service = l .service; tx = l .tx; state = l .state; server = l .server; first = l .first; outcome = l .outcome; ending = l .ending; sender = l .sender; granting = 0; disconnected = l .disconnected; unread = replicate 4 0; filled = 0 }
+added m l = withLastLink (withContents m (m .parties) (set (m .links) (m .count) l) (m .count + 1)) (m .lastlink + 1)
 
 -- ---- what a rule gives
 abbrev pub ruled : Monitor → ℤ → Ruled
 ruled m code = record { monitor = m; code = code; value = 0; event = 0; token = 0; service = 0 }
 
 abbrev pub valued : Monitor → ℕ → Ruled
-valued m v = record { monitor = m; code = pos 0; value = v; event = 0; token = 0; service = 0 }
+valued m v = record { monitor = m; code = accepted; value = v; event = 0; token = 0; service = 0 }
 
 -- a question of a rule: a "no" gives the number, and changes nothing
 abbrev pub ask : Monitor → Bool → ℤ → Ruled → Ruled

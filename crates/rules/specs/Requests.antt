@@ -1,14 +1,14 @@
 -- Kinds 12 to 16: a request, a connect, the dispatch of a waiting link, and a request's reply fetched or given up.
 -- Assumes nothing.
 use Prim.Native.Nat.{ℕ, _+_, _/_, _%_}
-use mathlib.Core.Bool.{Bool, true, false, not, _&&_, _||_}
-use lib.ListN.{getD, replicate}
+use mathlib.Core.Bool.{Bool, not, _&&_}
+use lib.ListN.{getD}
 use lib.Dec.{eqb, ltb, leb}
-use lib.IntN.{ℤ, pos}
-use Rattle.rules.specs.Choice.{pick, same}
+use lib.IntN.{ℤ}
+use Rattle.rules.specs.Choice.{pick}
 use Rattle.rules.specs.Codes.{badArgument, notAllowedNow, noSuchEnd, notOffered, noRoomLeft, inTransaction, timedOut, nothingWaiting, noReplyYet, accepted, tpeSvcFail, tpeSvcErr}
 use Rattle.rules.specs.Lists.{firstOf, anyOf}
-use Rattle.rules.specs.Record.{freshLink, isOpened, isRequest, isConversation, isWaiting, isReturned, ownEnd, party, live, linkOf, withParty, replaced, changed, removed, added, closed, valued, ask}
+use Rattle.rules.specs.Record.{freshLink, isOpened, isRequest, isWaiting, isReturned, ownEnd, party, live, linkOf, serving, closed, newLink, working, withParty, replaced, changed, removed, added, valued, ask}
 use Rattle.rules.specs.Transaction.{txOf, ended, expired}
 use Rattle.rules.specs.Services.{isService, offers}
 use Rattle.rules.specs.declared.Ruled.{Ruled}
@@ -35,29 +35,6 @@ unfoldable pub linkTx : Monitor → ℕ → ℕ → ℕ
 linkTx m p b = pick (noTran b) 0 (txOf m p)
 
 -- ---- 12, 13
--- "A new link is waiting, its originator the caller, service a, originator end otherwise open, first token c,
--- holder the server under flag 8 and else the originator; its other fields are 0 or empty."
-abbrev pub newLink : ℕ → ℕ → ℕ → ℕ → ℕ → ℕ → ℕ → ℕ → Link
-newLink n kind p attached a t c sender =
-    record {
-      number = n;
-      kind = kind;
-      originator = p;
-      attached = attached;
-      service = a;
-      tx = t;
-      state = 0;
-      server = 0;
-      first = c;
-      outcome = 0;
-      ending = 0;
-      sender = sender;
-      granting = 0;
-      disconnected = 0;
-      unread = replicate 4 0;
-      filled = 0;
-    }
-
 -- "Fewer than 32 links and a number left?"
 abbrev pub linkLeft : Monitor → Bool
 linkLeft m = ltb (m .count) 32 && ltb (m .lastlink) 60000
@@ -104,12 +81,6 @@ fits q l = isWaiting l && offers (l .service) q
 -- "event 64 request, 65 server receives, 66 server sends"
 unfoldable pub dispatchEvent : Link → ℕ
 dispatchEvent l = pick (isRequest l) 64 (pick (eqb (l .sender) 0) 65 66)
-
-abbrev pub working : Link → ℕ → Link
-working l p = record { number = l .number; kind = l .kind; originator = l .originator; attached = l .attached; service = l .service; tx = l .tx; state = 1; server = p; first = l .first; outcome = l .outcome; ending = l .ending; sender = l .sender; granting = l .granting; disconnected = l .disconnected; unread = l .unread; filled = l .filled }
-
-abbrev pub serving : Party → ℕ → Party
-serving q d = record { opened = q .opened; control = q .control; timeout = q .timeout; services = q .services; owned = q .owned; deadline = q .deadline; rollbackonly = q .rollbackonly; served = d }
 
 -- the link l at the place i becomes working for party p
 unfoldable pub dispatched : Monitor → ℕ → ℕ → Link → Ruled

@@ -2,14 +2,13 @@
 -- Assumes nothing.
 use Prim.Native.Nat.{ℕ}
 use mathlib.Core.List.{List, [], _∷_}
-use mathlib.Core.Bool.{Bool, true, false, not, _&&_, _||_}
+use mathlib.Core.Bool.{not, _&&_, _||_}
 use lib.Dec.{eqb}
 use Rattle.rules.specs.Choice.{pick}
 use Rattle.rules.specs.Codes.{badArgument, notAllowedNow}
 use Rattle.rules.specs.Lists.{anyOf, collect}
-use Rattle.rules.specs.Record.{freshParty, isConversation, isAttached, isWorking, isReturned, isServerFree, ownEnd, party, live, linkOf, rebuilt, withParties, withParty, changed, removed, closed, cutOff, dropped, valued, ask}
+use Rattle.rules.specs.Record.{freshParty, isConversation, isAttached, isWorking, isReturned, isServerFree, ownEnd, party, live, linkOf, serving, closed, dropped, cutOff, returned, withParties, withParty, rebuilt, changed, removed, valued, ask}
 use Rattle.rules.specs.Transaction.{doomedIn, doom, endTx}
-use Rattle.rules.specs.Requests.{serving}
 use Rattle.rules.specs.Conversations.{originatorEnd}
 use Rattle.rules.specs.declared.Ruled.{Ruled}
 use Rattle.rules.specs.declared.Party.{Party}
@@ -70,9 +69,6 @@ servesNone m p = withParty m p (serving (party m p) 0)
 -- "Ending token: c, but 0 for outcome 2."
 unfoldable pub endingOf : ℕ → ℕ → ℕ
 endingOf o c = pick (eqb o 2) 0 c
-
-abbrev pub returned : Link → ℕ → ℕ → Link
-returned l o e = record { number = l .number; kind = l .kind; originator = l .originator; attached = l .attached; service = l .service; tx = l .tx; state = 2; server = l .server; first = l .first; outcome = o; ending = e; sender = l .sender; granting = l .granting; disconnected = l .disconnected; unread = l .unread; filled = l .filled }
 
 unfoldable pub handBack : Monitor → ℕ → ℕ → ℕ → Monitor
 handBack m d o e = pick (isAttached (linkOf m d)) (changed m d (returned (linkOf m d) o e)) (removed m d)

@@ -6,12 +6,11 @@ use lib.Dec.{eqb, leb}
 use lib.IntN.{ℤ, pos}
 use lib.ListN.{getD, drop, length}
 use Rattle.rules.specs.Choice.{pick}
-use Rattle.rules.specs.Codes.{tooLittleRoom, cutShort, unsound}
+use Rattle.rules.specs.Codes.{listRun, tooLittleRoom, cutShort, unsound}
 use Rattle.rules.specs.Sound.{sound}
 use Rattle.rules.specs.Step.{callOf}
 use Rattle.rules.specs.declared.Answer.{Answer}
 use Rattle.rules.specs.declared.Call.{Call}
-use Rattle.rules.specs.declared.Stepped.{Stepped}
 use Rattle.rules.specs.declared.Monitor.{Monitor}
 
 -- the call at the front of a list of numbers
@@ -50,7 +49,7 @@ listOf m cs out =
     pick (eqb (length cs % 6) 0)
     (pick (leb (length cs) (length out))
     (pick (sound m)
-    (listed (pos 0) (ranOf (callsIn cs) m cs) (answersOf (callsIn cs) m cs ++ drop (callsIn cs * 6) out))
+    (listed listRun (ranOf (callsIn cs) m cs) (answersOf (callsIn cs) m cs ++ drop (callsIn cs * 6) out))
     (listed unsound m out))
     (listed tooLittleRoom m out))
     (listed cutShort m out)

@@ -1,12 +1,11 @@
 -- Services, as a 64-bit set, and kinds 10 and 11: a party offers one, and no longer does.
 -- Assumes nothing.
 use Prim.Native.Nat.{ℕ, zero, suc, _+_, _-_, _/_, _%_, _^_}
-use mathlib.Core.Bool.{Bool, true, false, not, _&&_, _||_}
+use mathlib.Core.Bool.{Bool, _&&_, _||_}
 use lib.Dec.{eqb, ltb, leb}
 use Rattle.rules.specs.Choice.{pick}
 use Rattle.rules.specs.Codes.{badArgument, notOffered, noRoomLeft}
-use Rattle.rules.specs.Lists.{anyOf}
-use Rattle.rules.specs.Record.{party, withParty, valued, ask}
+use Rattle.rules.specs.Record.{party, offering, withParty, valued, ask}
 use Rattle.rules.specs.declared.Ruled.{Ruled}
 use Rattle.rules.specs.declared.Party.{Party}
 use Rattle.rules.specs.declared.Monitor.{Monitor}
@@ -40,9 +39,6 @@ withService s a = pick (inSet s a) s (s + 2 ^ (a - 1))
 
 abbrev pub withoutService : ℕ → ℕ → ℕ
 withoutService s a = s - 2 ^ (a - 1)
-
-abbrev pub offering : Party → ℕ → Party
-offering q s = record { opened = q .opened; control = q .control; timeout = q .timeout; services = s; owned = q .owned; deadline = q .deadline; rollbackonly = q .rollbackonly; served = q .served }
 
 -- party p offers the set s now
 unfoldable pub offersNow : Monitor → ℕ → ℕ → Ruled

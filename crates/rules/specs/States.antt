@@ -4,7 +4,7 @@ use Prim.Native.Nat.{ℕ}
 use mathlib.Core.Bool.{Bool, not}
 use lib.Dec.{eqb, leb}
 use Rattle.rules.specs.Choice.{pick}
-use Rattle.rules.specs.Record.{isOpened, isChained, party, withParty}
+use Rattle.rules.specs.Record.{isOpened, isChained, party, withSettings, withParty}
 use Rattle.rules.specs.Transaction.{txOf}
 use Rattle.rules.specs.declared.Party.{Party}
 use Rattle.rules.specs.declared.Monitor.{Monitor}
@@ -43,17 +43,7 @@ nextOf k s =
 
 -- what a state says of a party's fields
 unfoldable pub inState : Party → ℕ → Party
-inState q s =
-    record {
-      opened = pick (eqb s 0) 0 1;
-      control = pick (eqb s 2) 1 (pick (eqb s 4) 1 0);
-      timeout = q .timeout;
-      services = q .services;
-      owned = q .owned;
-      deadline = q .deadline;
-      rollbackonly = q .rollbackonly;
-      served = q .served;
-    }
+inState q s = withSettings q (pick (eqb s 0) 0 1) (pick (eqb s 2) 1 (pick (eqb s 4) 1 0)) (q .timeout) (q .services)
 
 -- party p enters a state
 unfoldable pub entered : Monitor → ℕ → ℕ → Monitor

@@ -1,9 +1,9 @@
 -- One call: the questions before the kind's, the clock, the kind's rule, the answer's last field.
 -- Assumes nothing.
 use Prim.Native.Nat.{ℕ}
-use mathlib.Core.Bool.{Bool, true, false, not, _&&_, _||_}
+use mathlib.Core.Bool.{Bool, _&&_}
 use lib.Dec.{eqb, ltb, leb}
-use lib.IntN.{ℤ, pos}
+use lib.IntN.{ℤ}
 use Rattle.rules.specs.Choice.{pick}
 use Rattle.rules.specs.Codes.{unsound, unknownKind, unknownParty}
 use Rattle.rules.specs.Record.{withClock, ruled}
@@ -15,7 +15,6 @@ use Rattle.rules.specs.Conversations.{sendOf, receiveOf, disconnectOf}
 use Rattle.rules.specs.Return.{returnOf, terminateOf}
 use Rattle.rules.specs.Sound.{sound}
 use Rattle.rules.specs.declared.Ruled.{Ruled}
-use Rattle.rules.specs.declared.Answer.{Answer}
 use Rattle.rules.specs.declared.Call.{Call}
 use Rattle.rules.specs.declared.Stepped.{Stepped}
 use Rattle.rules.specs.declared.Monitor.{Monitor}

@@ -2,12 +2,12 @@
 -- Assumes nothing.
 use Prim.Native.Nat.{ℕ, _+_}
 use mathlib.Core.List.{List, [], _∷_}
-use mathlib.Core.Bool.{Bool, true, false, not, _&&_, _||_}
+use mathlib.Core.Bool.{Bool, false, not, _&&_}
 use lib.ListN.{set, getD}
 use lib.Dec.{eqb, ltb, leb}
 use Rattle.rules.specs.Choice.{pick, same}
 use Rattle.rules.specs.Lists.{firstOf, anyOf, collect}
-use Rattle.rules.specs.Record.{freshParty, isRequest, isAttached, isWorking, isNotified, isRollbackOnly, owns, party, live, linkOf, rebuilt, withParties, withParty, closed, cutOff}
+use Rattle.rules.specs.Record.{freshParty, isRollbackOnly, isRequest, isAttached, isWorking, isNotified, owns, party, live, linkOf, owning, owningNone, rollbackOnly, closed, cutOff, withLastTx, withParties, withParty, rebuilt}
 use Rattle.rules.specs.declared.Party.{Party}
 use Rattle.rules.specs.declared.Link.{Link}
 use Rattle.rules.specs.declared.Monitor.{Monitor}
@@ -44,9 +44,6 @@ unfoldable pub isOwner : Monitor → ℕ → Bool
 isOwner m p = not (eqb (party m p .owned) 0) && same (ownerOf (m .parties) (party m p .owned)) p
 
 -- ---- doomed: a transaction that can only be rolled back
-abbrev pub rollbackOnly : Party → Party
-rollbackOnly q = record { opened = q .opened; control = q .control; timeout = q .timeout; services = q .services; owned = q .owned; deadline = q .deadline; rollbackonly = 1; served = q .served }
-
 -- the parties as t, if it is live, is doomed by its owner's mark
 unfoldable pub doomedIn : ℕ → List Party → List Party
 doomedIn t ps = pick (eqb t 0) ps (set ps (ownerOf ps t) (rollbackOnly (ownerParty ps t)))
@@ -55,34 +52,19 @@ abbrev pub doom : Monitor → ℕ → Monitor
 doom m t = withParties m (doomedIn t (m .parties))
 
 -- ---- a transaction begins
-abbrev pub owning : Party → ℕ → ℕ → Party
-owning q t d = record { opened = q .opened; control = q .control; timeout = q .timeout; services = q .services; owned = t; deadline = d; rollbackonly = q .rollbackonly; served = q .served }
-
 -- "Deadline is clock + timeout, or 0."
 unfoldable pub deadlineOf : ℕ → ℕ → ℕ
 deadlineOf clock timeout = pick (eqb timeout 0) 0 (clock + timeout)
 
 -- party p begins a transaction with the next number
 unfoldable pub beginTx : Monitor → ℕ → Monitor
-beginTx m p =
-    record {
-      clock = m .clock;
-      lastlink = m .lastlink;
-      lasttx = m .lasttx + 1;
-      parties = set (m .parties) p (owning (party m p) (m .lasttx + 1) (deadlineOf (m .clock) (party m p .timeout)));
-      links = m .links;
-      count = m .count;
-    }
+beginTx m p = withLastTx (withParty m p (owning (party m p) (m .lasttx + 1) (deadlineOf (m .clock) (party m p .timeout)))) (m .lasttx + 1)
 
 -- "Transaction numbers left?"
 abbrev pub txLeft : Monitor → Bool
 txLeft m = ltb (m .lasttx) 60000
 
 -- ---- a transaction ends
--- "the party's owned transaction, deadline and doomed mark become 0"
-abbrev pub owningNone : Party → Party
-owningNone q = record { opened = q .opened; control = q .control; timeout = q .timeout; services = q .services; owned = 0; deadline = 0; rollbackonly = 0; served = q .served }
-
 -- "a working request's originator end closes, a working conversation not yet told is cut"
 unfoldable pub orphaned : Link → Link
 orphaned l = pick (isRequest l) (closed l) (pick (isNotified l) l (cutOff l))
@@ -91,7 +73,7 @@ orphaned l = pick (isRequest l) (closed l) (pick (isNotified l) l (cutOff l))
 unfoldable pub endOf : ℕ → Link → List Link
 endOf t l = pick (same (l .tx) t) (pick (isWorking l) (orphaned l ∷ []) []) (l ∷ [])
 
--- party p's own transaction ends
+-- party p's own transaction ends: "the party's owned transaction, deadline and doomed mark become 0"
 unfoldable pub endTx : Monitor → ℕ → Monitor
 endTx m p = rebuilt (withParty m p (owningNone (party m p))) (collect (endOf (party m p .owned)) (live m))
 

@@ -1,20 +1,16 @@
 -- Kinds 1 to 9: the TX calls.
 -- Assumes nothing.
 use Prim.Native.Nat.{ℕ, _+_}
-use mathlib.Core.Bool.{Bool, true, false, not}
+use mathlib.Core.Bool.{Bool, not}
 use lib.Dec.{eqb, leb}
-use lib.IntN.{ℤ, pos}
+use lib.IntN.{ℤ}
 use Rattle.rules.specs.Choice.{pick}
-use Rattle.rules.specs.Codes.{txOk, txNotSupported, txRollback, txProtocolError, txError, txEinval, noBegin}
-use Rattle.rules.specs.Record.{party, withParty, ruled, ask}
+use Rattle.rules.specs.Codes.{txOk, txNotSupported, txInfoOutside, txInfoInside, txRollback, txProtocolError, txError, txEinval, noBegin}
+use Rattle.rules.specs.Record.{party, withParty, ruled, ask, withTimeout}
 use Rattle.rules.specs.Transaction.{txOf, isOwner, txLeft, beginTx, endTx, canCommit}
 use Rattle.rules.specs.States.{stateOf, isBlank, nextOf, entered}
 use Rattle.rules.specs.declared.Ruled.{Ruled}
-use Rattle.rules.specs.declared.Party.{Party}
 use Rattle.rules.specs.declared.Monitor.{Monitor}
-
-abbrev pub withTimeout : Party → ℕ → Party
-withTimeout q t = record { opened = q .opened; control = q .control; timeout = t; services = q .services; owned = q .owned; deadline = q .deadline; rollbackonly = q .rollbackonly; served = q .served }
 
 -- the next state of party p's call, and whether there is one: a blank is TX_PROTOCOL_ERROR
 abbrev pub nextState : Monitor → ℕ → ℕ → ℕ
@@ -68,7 +64,7 @@ rollbackOf m p =
 
 -- 6 info: S1 to S4, code 1 in T, else 0
 unfoldable pub infoOf : Monitor → ℕ → Ruled
-infoOf m p = askState m p 6 (pick (eqb (txOf m p) 0) (ruled m (pos 0)) (ruled m (pos 1)))
+infoOf m p = askState m p 6 (pick (eqb (txOf m p) 0) (ruled m txInfoOutside) (ruled m txInfoInside))
 
 -- 7 commit return: a = 0 gives 0, 1 gives 1 (NOT_SUPPORTED), other a −8
 unfoldable pub commitReturnOf : Monitor → ℕ → ℕ → Ruled

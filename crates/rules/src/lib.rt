@@ -1,14 +1,13 @@
-// The monitor's record, a call and its answer: the data that the rules in specs/ speak of.
+// The monitor's record, a call and its answer: the data that the rules in specs/ speak of. The crate monitor holds the record as words.
 ghost use mathlib.Core.Path.{_≡_};
-ghost use Rattle.rules.specs.Record.{freshParty, freshLink, freshMonitor};
+ghost use Rattle.rules.specs.Record.{freshParty, freshLink};
 
-// A party. Yes/no fields and other choices are small numbers, so that whatever a host lends is a value that can be refused.
-#[repr(C)]
+// A party. Yes/no fields and other choices are numbers, so that whatever a host lends is a value that can be refused.
 pub struct Party {
     // 0 not opened, 1 opened
-    pub opened: u8,
+    pub opened: u32,
     // transaction control: 0 unchained, 1 chained
-    pub control: u8,
+    pub control: u32,
     // seconds, 0 none
     pub timeout: u32,
     // the services 1 to 64 that it offers, service n as bit n - 1
@@ -18,45 +17,43 @@ pub struct Party {
     // of the owned transaction, 0 none
     pub deadline: u64,
     // the owned transaction can only be rolled back (document 01: doomed): 0 no, 1 yes
-    pub rollbackonly: u8,
+    pub rollbackonly: u32,
     // the number of the link that it serves, 0 none
     pub served: u32,
 }
 
 // A request or a conversation between its originator and the party that serves it.
-#[repr(C)]
 pub struct Link {
     pub number: u32,
     // 0 request, 1 conversation
-    pub kind: u8,
-    pub originator: u8,
+    pub kind: u32,
+    pub originator: u32,
     // the originator's end: 0 closed, 1 open
-    pub attached: u8,
-    pub service: u8,
+    pub attached: u32,
+    pub service: u32,
     // its transaction, 0 none
     pub tx: u32,
     // 0 waiting, 1 working, 2 returned
-    pub state: u8,
-    pub server: u8,
+    pub state: u32,
+    pub server: u32,
     // the token that came with the request
     pub first: u32,
     // 8 success, 4 fail, 2 error, 0 before a return
-    pub outcome: u8,
+    pub outcome: u32,
     // the token that came with the return
     pub ending: u32,
     // which end may send (document 01: holder): 0 the originator's, 1 the server's
-    pub sender: u8,
+    pub sender: u32,
     // the grant of the sender's role is under way (document 01: handing over): 0 no, 1 yes
-    pub granting: u8,
+    pub granting: u32,
     // 0 no, 1 disconnected, 2 its server was notified (document 01: cut, told)
-    pub disconnected: u8,
+    pub disconnected: u32,
     // tokens sent and not yet received, the oldest first; places past the last are 0
     pub unread: [u32; 4],
     // how many are unread
-    pub filled: u8,
+    pub filled: u32,
 }
 
-#[repr(C)]
 pub struct Monitor {
     pub clock: u32,
     // the last number given to a link, and to a transaction
@@ -130,7 +127,7 @@ impl Party {
 
 impl Link {
     // how many tokens can be unread
-    pub const UNREAD: u8 = 4;
+    pub const UNREAD: u32 = 4;
 
     pub fn fresh() -> Link
         ensures { λ r. ⌜ r ≡ freshLink ⌝ }
@@ -162,21 +159,4 @@ impl Monitor {
     pub const LINKS: usize = 32;
     // the last number that a link or a transaction can have
     pub const NUMBERS: u32 = 60000;
-
-    pub fn fresh() -> Monitor
-        ensures { λ r. ⌜ r ≡ freshMonitor ⌝ }
-    {
-        let p = Party::fresh();
-        let l = Link::fresh();
-        let parties = [p; 16];
-        let links = [l; 32];
-        Monitor {
-            clock: 0,
-            lastlink: 0,
-            lasttx: 0,
-            parties,
-            links,
-            count: 0,
-        }
-    }
 }

@@ -6,7 +6,7 @@ use mathlib.Core.List.{List, [], _∷_}
 use Prim.Native.Nat.{ℕ, _≤_, _<_}
 use native.Mathlib.Omega.{arith}
 use lib.Dec.{eqb}
-use lib.IntN.{ℤ, pos, negsuc}
+use lib.IntN.{ℤ, pos}
 use borrow.Author.Tests.{eqb-true}
 use Rattle.rules.specs.Choice.{pick, same}
 use Rattle.rules.specs.declared.Call.{Call}
@@ -14,7 +14,8 @@ use Rattle.rules.specs.declared.Link.{Link}
 use Rattle.rules.specs.declared.Party.{Party}
 use Rattle.rules.specs.History.{Event, some, ofKind, by, answeredBy, withValue, withEvent, accepted, linkOn, on, endsIn, upToStart, startedBy, isOwner, sameCode, makes, isLinkOf, serves, failedEnd, disconnect, finishes}
 use Rattle.rules.proofs.Logic.{test, same-refl, same-ne, and-r, and-false, or-true, or-false, pick-yes, pick-no, Nz, and-yes, and-assoc, and-comm, cond-same, cond-of, cond-and, cond-not}
-use Rattle.rules.proofs.History.Tells.{Tell, nothing, sent, given, made, taken, finished, disconnected, left, tellOf, endingEvent, canStart}
+use Rattle.rules.proofs.Codes.{of-code}
+use Rattle.rules.proofs.History.Tells.{Tell, nothing, sent, given, made, taken, finished, disconnected, left, tellOf, endingEvent, Valueless, canStart}
 use Rattle.rules.proofs.History.Shows.{Shows, showsOf, Next, servesAfter, isMade, isFinished, failsNow, disconnectsNow}
 use Rattle.rules.proofs.History.Moves
 use Rattle.rules.proofs.History.Moves.{Move}
@@ -106,7 +107,7 @@ finishes-tells e d o = ofIt e 15
     (λ n15. ofIt e 17
     (λ y. rw y (simp (cond-of (λ t. isFinished t d), cond-and, cond-not) (unless (accepted e) (on d e) (by o e) (endingEvent e) (λ a. rw (zero-code (e .answer .code) a)))))
     (λ n17. ofIt e 18
-    (λ y. rw y (simp (cond-of (λ t. isFinished t d), cond-and, cond-not) (unless (answeredBy (pos 29) e && withEvent 32 e) (on d e) (by o e) (endingEvent e) (λ a. let r : e .answer .event ≡ 32 = eqb-true _ _ (and-r (answeredBy (pos 29) e) _ a) in rw (r, and-false)))))
+    (λ y. rw y (simp (cond-of (λ t. isFinished t d), cond-and, cond-not) (unless (answeredBy (pos 29) e && withEvent 32 e) (on d e) (by o e) (endingEvent e) given-first)))
     (λ n18. rw (n15, n17, n18) (simp (cond-of (λ t. isFinished t d), cond-same)))))
   where
     unless : (a l o x : Bool) → (a ≡ true → x ≡ false) → l && (o && x) ≡ (not a && (x && l)) && o
@@ -114,21 +115,24 @@ finishes-tells e d o = ofIt e 15
     unless false l o true e = rw and-yes
     unless false l o false e = simp and-false
 
-    zero-code : (z : ℤ) → sameCode (pos 0) z ≡ true → sameCode (pos 29) z ≡ false
-    zero-code (pos n) e = let r : 0 ≡ n = eqb-true 0 n e in rw (← r)
-    zero-code (negsuc n) e = refl
+    -- SENDONLY is no ending event
+    given-first : answeredBy (pos 29) e && withEvent 32 e ≡ true → endingEvent e ≡ false
+    given-first a = let r : e .answer .event ≡ 32 = eqb-true _ _ (and-r (answeredBy (pos 29) e) _ a) in unfold endingEvent withEvent in rw (r, and-false)
 
-fails-tells : (e : Event) → (accepted e ≡ false → e .answer .value ≡ 0) → (b : Bool)
+    zero-code : (z : ℤ) → sameCode (pos 0) z ≡ true → sameCode (pos 29) z ≡ false
+    zero-code z e = of-code (λ x. sameCode (pos 29) x ≡ false) (pos 0) z refl e
+
+fails-tells : (e : Event) → Valueless e → (b : Bool)
     → (ofKind 20 e || ofKind 21 e) && ((withValue 2 e || withValue 4 e) && b) ≡ failsNow (tellOf e) b
 unfolding tellOf ofKind accepted answeredBy withValue
 fails-tells e nv b = ofIt e 20
-    (λ y. rw y (simp (cond-of (λ t. failsNow t b), cond-and) needless))
+    (λ y. rw y (simp (cond-of (λ t. failsNow t b), cond-and) (needless (rw y))))
     (λ n20. ofIt e 21
-    (λ y. rw y (simp (cond-of (λ t. failsNow t b), cond-and) needless))
+    (λ y. rw y (simp (cond-of (λ t. failsNow t b), cond-and) (needless (rw y))))
     (λ n21. rw (n20, n21) (simp (cond-of (λ t. failsNow t b), cond-same))))
   where
-    needless : (withValue 2 e || withValue 4 e) && b ≡ accepted e && ((withValue 2 e || withValue 4 e) && b)
-    needless = test (accepted e) (λ y. rw y) (λ n. rw (n, nv n))
+    needless : ofKind 20 e || ofKind 21 e ≡ true → (withValue 2 e || withValue 4 e) && b ≡ accepted e && ((withValue 2 e || withValue 4 e) && b)
+    needless k = test (accepted e) (λ y. rw y) (λ n. rw (n, nv k n))
 
 -- ---- what tests f and g say alike of numbers up to n, a history bounded by n shows alike
 module _ (n : ℕ) (f g : ℕ → Bool) (alike : (d : ℕ) → d ≤ n → f d ≡ g d) where
@@ -201,7 +205,7 @@ disc-made (left bad) y f = refl
 
 -- ---- the event e, which tells t, adds this to the history h
 module _ (n : ℕ) (h : List Event) (e : Event) (t : Tell) (bounds : Bounds n h) (tells : tellOf e ≡ t) (above : MadeAbove n t)
-    (valueless : accepted e ≡ false → e .answer .value ≡ 0) where
+    (valueless : Valueless e) where
   link-next : (d u : ℕ) → Nz u → isLinkOf (e ∷ h) u d ≡ (isMade t d && same (e .answer .tx) u) || isLinkOf h u d
   unfolding isLinkOf some
   link-next d u z = rw (makes-tells e d u z, tells)

@@ -12,8 +12,8 @@ use Rattle.rules.specs.History.{Event, some, ofKind, by, withValue, past
 use Rattle.rules.specs.declared.Link.{Link}
 use Rattle.rules.specs.declared.Party.{Party}
 use Rattle.rules.proofs.Logic.{pick-true, pick-false, test, not-both, same-refl, same-true, and-l, and-r, and-true, or-true, not-true, beq-refl, Nz}
+use Rattle.rules.proofs.Fine.{txP}
 use Rattle.rules.proofs.History.Shows.{showsOf}
-use Rattle.rules.proofs.History.Moves.{txP}
 use Rattle.rules.proofs.History.World.{World}
 
 -- an event of the history that passes the test
@@ -79,7 +79,8 @@ module _ {n m : ℕ} {P : ℕ → Party} {L : ℕ → Link} (h : List Event) (e 
 
     exactly : committed e ≡ not (reasonAgainst h e (txAt h e))
     unfolding reasonAgainst
-    exactly = a .code ∙ rw (doomed, a .lateIs) (law (failedEnd (isLinkOf h (txAt h e)) h) (disconnect (isLinkOf h (txAt h e)) h) (deadlinePassed (upToStart (txAt h e) h) (e ∷ h)) (a .openEnd) (unfinished h (txAt h e))
+    exactly = a .code ∙ rw (doomed, a .lateIs)
+        (law (failedEnd (isLinkOf h (txAt h e)) h) (disconnect (isLinkOf h (txAt h e)) h) (deadlinePassed (upToStart (txAt h e) h) (e ∷ h)) (a .openEnd) (unfinished h (txAt h e))
         (λ un. same-tests _ _ open-unfinished (unfinished-open (doomed ∙ un))))
       where
         same-tests : (x y : Bool) → (x ≡ true → y ≡ true) → (y ≡ true → x ≡ true) → x ≡ y

@@ -9,7 +9,8 @@ use Rattle.rules.specs.Record.{isAttached, isWaiting, isWorking, isRollb
 use Rattle.rules.specs.declared.Link.{Link}
 use Rattle.rules.specs.declared.Party.{Party}
 use Rattle.rules.proofs.Logic.{Nz, same-true, test, above-nz, zero-nz}
-use Rattle.rules.proofs.History.Moves.{txP, Left}
+use Rattle.rules.proofs.Fine.{txP}
+use Rattle.rules.proofs.History.Moves.{Left}
 use Rattle.rules.proofs.History.Left.{left-tx, left-nought, left-low, left-number, left-open, left-live, left-working, left-cut, left-ends}
 use Rattle.rules.proofs.History.Shows.{Shows}
 use Rattle.rules.proofs.History.World.{World}

@@ -5,20 +5,15 @@ use mathlib.Core.Path.{_≡_}
 use mathlib.Core.Bool.{Bool, true, false, _||_}
 use Prim.Native.Nat.{ℕ, suc}
 use lib.Dec.{eqb}
-use lib.ListN.{replicate}
-use Rattle.rules.specs.Choice.{pick, same}
-use Rattle.rules.specs.Record.{isConversation, isAttached, isWaiting, isWorking, isRollbackOnly}
-use Rattle.rules.specs.Requests.{working}
+use Rattle.rules.specs.Choice.{same}
+use Rattle.rules.specs.Record.{isConversation, isAttached, isWaiting, isWorking, isRollbackOnly, working, returned}
 use Rattle.rules.specs.Sound.{linkGood}
 use Rattle.rules.specs.declared.Call.{Call}
 use Rattle.rules.specs.declared.Link.{Link}
 use Rattle.rules.specs.declared.Party.{Party}
 use Rattle.rules.proofs.Logic.{Nz}
+use Rattle.rules.proofs.Fine.{noLink, txP}
 use Rattle.rules.proofs.History.Tells.{Tell, nothing, sent, given, made, taken, finished, disconnected, left, canStart}
-
--- a link that is not there: nobody's end is open, and nothing is to come
-unfoldable pub noLink : Link
-noLink = record { number = 0; kind = 0; originator = 0; attached = 0; service = 0; tx = 0; state = 2; server = 0; first = 0; outcome = 2; ending = 0; sender = 0; granting = 0; disconnected = 0; unread = replicate 4 0; filled = 0 }
 
 abbrev pub isEnding : ℕ → Bool
 isEnding o = eqb o 2 || (eqb o 4 || eqb o 8)
@@ -77,10 +72,6 @@ pub data Left (l l′ : Link) : Type 0 where
 pub data End (l : Link) (p : ℕ) : ℕ → Type 0 where
   origin : l .originator ≡ p → End l p 0
   service : l .server ≡ p → isWaiting l ≡ false → End l p 1
-
--- party p's transaction
-unfoldable pub txP : (ℕ → Party) → (ℕ → Link) → ℕ → ℕ
-txP P L q = pick (same (P q .owned) 0) (L (P q .served) .tx) (P q .owned)
 
 -- what holds of every record that a list reaches, and not of every sound one; some moves rely on it
 pub record Sane (P : ℕ → Party) (L : ℕ → Link) (p : ℕ) : Type 0 where

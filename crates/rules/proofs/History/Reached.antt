@@ -2,7 +2,7 @@
 -- Assumes nothing.
 use mathlib.Core.Path.{_≡_, refl, sym, ap, _∙_}
 use mathlib.Core.Bool.{Bool, true, false, not, _&&_}
-use mathlib.Core.List.{List, [], _∷_}
+use mathlib.Core.List.{List, _∷_}
 use Prim.Native.Nat.{ℕ, suc, _<_}
 use native.Mathlib.Omega.{arith}
 use borrow.Author.Tests.{eqb-true}
@@ -12,17 +12,16 @@ use Rattle.rules.specs.Transaction.{servedTx, txOf, late, isOwner, isOpe
 use Rattle.rules.specs.Lists.{anyOf}
 use Rattle.rules.specs.Tx.{commitOf}
 use Rattle.rules.specs.Step.{ruleOf, isKind, advanced, laterOf, told}
-use Rattle.rules.specs.History.{Event, ofKind, accepted, past21, txAt, latestTx, upToStart, greatestClock, deadlinePassed, committed, senderRule, commitRule, aloneRule, holds}
+use Rattle.rules.specs.History.{Event, ofKind, past21, txAt, latestTx, upToStart, greatestClock, deadlinePassed, committed, senderRule, commitRule, aloneRule, holds}
 use Rattle.rules.specs.declared.Call.{Call}
 use Rattle.rules.specs.declared.Monitor.{Monitor}
 use Rattle.rules.specs.declared.Ruled.{Ruled}
 use Rattle.rules.proofs.Logic.{Nz, same-refl, same-true, and-l, and-r, and-true}
-use Rattle.rules.proofs.Fine.{look, Fine}
+use Rattle.rules.proofs.Fine.{noLink, txP, look, Fine}
 use Rattle.rules.proofs.Looks.{txOf-txP, any-some, any-one, link-low}
 use Rattle.rules.proofs.Parties.{isOwner-only}
 use Rattle.rules.proofs.Sound.{clock-fine, moved-fine}
-use Rattle.rules.proofs.History.Tells.{tellOf, canStart}
-use Rattle.rules.proofs.History.Moves.{noLink, txP}
+use Rattle.rules.proofs.History.Tells.{tellOf, Valueless, canStart}
 use Rattle.rules.proofs.History.Shows.{showsOf, Next}
 use Rattle.rules.proofs.History.World.{World}
 use Rattle.rules.proofs.History.Stamped.{unique}
@@ -83,9 +82,9 @@ module _ (m : Monitor) (h : List Event) (i : Reached m h) (c : Call) (kind : isK
   unfolding e
   tells = moved .tells
 
-  valueless : accepted e ≡ false → e .answer .value ≡ 0
+  valueless : Valueless e
   unfolding e
-  valueless a = unfold eventOf told in moved .valueless a
+  valueless = moved .valueless
 
   next₁ : Next (moved .tell) (c .party) (e .answer .tx) (canStart c) (showsOf h) (showsOf (e ∷ h))
   unfolding e eventOf
@@ -181,13 +180,18 @@ module _ (m : Monitor) (h : List Event) (i : Reached m h) (c : Call) (kind : isK
   sender₁ : senderRule h e ≡ true
   sender₁ = sender-holds c (c .party) _ _ _ _ _ _ _ _ h e (unfold e eventOf in refl) (link-low m₀ (fine₀ .frame)) turns₀ tells (moved .move)
 
-  pub reached-next : Reached (told (ruleOf (advanced m (c .clock)) (c .party) (c .kind) (c .a) (c .b) (c .c)) (c .party) .monitor) (eventOf c (ruleOf (advanced m (c .clock)) (c .party) (c .kind) (c .a) (c .b) (c .c)) ∷ h)
+  bounds₁ : Bounds (r .monitor .lastlink) (e ∷ h)
+  bounds₁ = let up = move-grows (moved .move) .0 in
+      bounds-next _ h e (moved .tell) tells (told-grows _ _ (moved .tell) up (move-told world₀ (moved .move))) (bounds-grow _ _ h up bounds₀)
+
+  pub reached-next : Reached (told (ruleOf (advanced m (c .clock)) (c .party) (c .kind) (c .a) (c .b) (c .c)) (c .party) .monitor)
+      (eventOf c (ruleOf (advanced m (c .clock)) (c .party) (c .kind) (c .a) (c .b) (c .c)) ∷ h)
   unfolding holds e r m₀ told
   reached-next = record {
     fine = moved-fine m₀ c r fine₀ moved party16;
     world = world₁;
     turns = turns c (c .party) _ _ _ _ _ _ _ _ h e (unfold e eventOf in refl) (link-low m₀ (fine₀ .frame)) turns₀ tells (moved .move);
     times = times₁;
-    bounds = bounds-next _ h e (moved .tell) tells (told-grows _ _ (moved .tell) (move-grows (moved .move) .0) (move-told world₀ (moved .move))) (bounds-grow _ _ h (move-grows (moved .move) .0) bounds₀);
+    bounds = bounds₁;
     statement = rw (sender₁, rules₁ .0, rules₁ .1) (i .statement);
   }

@@ -7,8 +7,9 @@ use native.Mathlib.Omega.{arith}
 use Rattle.rules.specs.declared.Link.{Link}
 use Rattle.rules.specs.declared.Party.{Party}
 use Rattle.rules.proofs.Logic.{Nz, pick-true, same-refl, same-true, same-ne, byTest, or-true, above-nz}
+use Rattle.rules.proofs.Fine.{txP}
 use Rattle.rules.proofs.History.Tells.{Tell, nothing, sent, given, finished}
-use Rattle.rules.proofs.History.Moves.{txP, Sane}
+use Rattle.rules.proofs.History.Moves.{Sane}
 use Rattle.rules.proofs.History.Shows.{Shows, Next, servesAfter, isMade, isFinished, failsNow, disconnectsNow}
 use Rattle.rules.proofs.History.World.{World}
 

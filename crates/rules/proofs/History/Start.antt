@@ -9,7 +9,7 @@ use Rattle.rules.specs.History.{some, upToStart, startedBy, isOwner, isL
 use Rattle.rules.specs.declared.Link.{Link}
 use Rattle.rules.specs.declared.Party.{Party}
 use Rattle.rules.proofs.Logic.{not-both, same-refl, same-false, zero-nz}
-use Rattle.rules.proofs.History.Moves.{noLink}
+use Rattle.rules.proofs.Fine.{noLink}
 use Rattle.rules.proofs.History.Shows.{showsOf}
 use Rattle.rules.proofs.History.World.{World}
 

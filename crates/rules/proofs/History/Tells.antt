@@ -1,6 +1,7 @@
 -- What one call and its answer tell, by the history statement's own terms.
 -- Assumes nothing.
-use mathlib.Core.Bool.{Bool, cond, not, _&&_, _||_}
+use mathlib.Core.Path.{_≡_}
+use mathlib.Core.Bool.{Bool, true, false, cond, not, _&&_, _||_}
 use Prim.Native.Nat.{ℕ}
 use lib.Dec.{eqb}
 use lib.IntN.{pos}
@@ -27,6 +28,10 @@ tellOf e =
     (cond (ofKind 19 e) (cond (accepted e) (disconnected (linkOn e)) nothing)
     (cond (ofKind 20 e || ofKind 21 e) (cond (accepted e) (left (withValue 2 e || withValue 4 e)) nothing)
     nothing))))))
+
+-- of kinds 20 and 21, only an accepted call has a value
+abbrev pub Valueless : Event → Type 0
+Valueless e = ofKind 20 e || ofKind 21 e ≡ true → accepted e ≡ false → e .answer .value ≡ 0
 
 -- can the call start a transaction: a 3, 4 or 5
 unfoldable pub canStart : Call → Bool

@@ -1,29 +1,30 @@
 -- Demand 3: the history statement holds of every history from a fresh monitor.
 -- Assumes nothing.
 use mathlib.Core.Path.{_≡_, refl}
-use mathlib.Core.Bool.{true, false, _||_}
+use mathlib.Core.Bool.{true, false, not}
 use mathlib.Core.List.{List, [], _∷_, _++_}
-use Prim.Native.Nat.{ℕ, zero, suc, _+_}
+use Prim.Native.Nat.{ℕ, zero, suc}
 use native.Mathlib.Omega.{arith}
-use lib.Dec.{eqb}
 use lib.IntN.{ℤ, pos}
 use lib.ListN.{getD, drop, replicate}
-use borrow.Author.Tests.{eqb-true, leb-true}
+use borrow.Author.Tests.{leb-true}
 use Rattle.rules.specs.Choice.{pick}
+use Rattle.rules.specs.Codes.{unknownKind, unknownParty}
 use Rattle.rules.specs.Record.{freshParty, freshMonitor, party}
 use Rattle.rules.specs.Transaction.{servedTx, txOf}
 use Rattle.rules.specs.Step.{turnedDown, callOf, stepOf}
 use Rattle.rules.specs.Run.{callAt, placesOf, ranOf, answersOf, callsIn, Listed, listOf}
-use Rattle.rules.specs.History.{Event, accepted, past21, answeredBy, latestTx, greatestClock, timeoutOf, isOwnersCommit, commitRule, aloneRule, holds, readCall, readAnswer, thenCalls, thenList}
+use Rattle.rules.specs.History.{Event, accepted, unheard, past21, answeredBy, latestTx, greatestClock, timeoutOf, isOwnersCommit, commitRule, aloneRule, holds, readCall, readAnswer, thenCalls, thenList}
 use Rattle.rules.specs.Demand.{Entry, single, lent, thenLent, answered, Demand3}
 use Rattle.rules.specs.declared.Answer.{Answer}
 use Rattle.rules.specs.declared.Call.{Call}
 use Rattle.rules.specs.declared.Monitor.{Monitor}
 use Rattle.rules.specs.declared.Stepped.{Stepped}
-use Rattle.rules.proofs.Logic.{byTest, not-both, and-false, or-true, or-cases, cond-same, zero-nz}
+use Rattle.rules.proofs.Logic.{byTest, not-both, and-false, cond-same, zero-nz}
 use Rattle.rules.proofs.Fine.{look}
+use Rattle.rules.proofs.Codes.{codes-apart}
 use Rattle.rules.proofs.Sound.{fine-sound, fresh-fine}
-use Rattle.rules.proofs.History.Tells.{nothing, tellOf, endingEvent}
+use Rattle.rules.proofs.History.Tells.{nothing, tellOf, endingEvent, Valueless}
 use Rattle.rules.proofs.History.Shows.{showsOf}
 use Rattle.rules.proofs.History.Stamped.{plainly-old, plain-nothing}
 use Rattle.rules.proofs.History.Bridge.{bounds-next, next}
@@ -33,28 +34,28 @@ use Rattle.rules.proofs.History.Times.{Times, started-before}
 use Rattle.rules.proofs.History.Reached.{Reached, reached-next}
 use Rattle.rules.proofs.History.Walk.Moved.{eventOf}
 
--- ---- a call that is refused by 20 or 21: the clock stays, and nothing is told
+-- ---- a call that is refused before it is heard: the clock stays, and nothing is told
 unfoldable pub eventBy : Call → Answer → Event
 eventBy c r = record { call = c; answer = r }
 
-module _ (m : Monitor) (h : List Event) (i : Reached m h) (c : Call) (n : ℕ) (is : eqb 20 n || eqb 21 n ≡ true) where
+module _ (m : Monitor) (h : List Event) (i : Reached m h) (c : Call) (code : ℤ) (early : unheard code ≡ true) where
   e : Event
-  e = eventBy c (turnedDown m (pos n) .answer)
+  e = eventBy c (turnedDown m code .answer)
 
-  unheard : past21 e ≡ false
-  unfolding past21 e eventBy turnedDown answeredBy
-  unheard = rw (is, or-true)
+  past-not : past21 e ≡ false
+  unfolding past21 e eventBy turnedDown
+  past-not = rw early
 
-  not-code : (z : ℕ) → eqb z 20 ≡ false → eqb z 21 ≡ false → answeredBy (pos z) e ≡ false
+  not-code : (z : ℤ) → unheard z ≡ false → answeredBy z e ≡ false
   unfolding e eventBy turnedDown answeredBy
-  not-code z a b = or-cases (eqb 20 n) (eqb 21 n) is (λ x. rw (← eqb-true 20 n x) a) (λ x. rw (← eqb-true 21 n x) b)
+  not-code z h = codes-apart (λ x. not (unheard x)) z code (rw h) (rw early)
 
   quiet : tellOf e ≡ nothing
   unfolding tellOf accepted endingEvent
-  quiet = rw (not-code 0 refl refl, not-code 29 refl refl, not-code 30 refl refl, not-code 31 refl refl) (simp cond-same)
+  quiet = rw (not-code (pos 0) refl, not-code (pos 29) refl, not-code (pos 30) refl, not-code (pos 31) refl) (simp cond-same)
 
-  valueless : accepted e ≡ false → e .answer .value ≡ 0
-  valueless _ = unfold e eventBy turnedDown in refl
+  valueless : Valueless e
+  valueless _ _ = unfold e eventBy turnedDown in refl
 
   no-tx : e .answer .tx ≡ 0
   unfolding e eventBy turnedDown
@@ -62,19 +63,19 @@ module _ (m : Monitor) (h : List Event) (i : Reached m h) (c : Call) (n : ℕ) (
 
   times-refused : Times m (e ∷ h)
   times-refused = record {
-    clock = (unfold greatestClock in rw unheard (i .times .clock));
-    latest = λ q. (unfold latestTx in rw (unheard, and-false) (i .times .latest q));
+    clock = (unfold greatestClock in rw past-not (i .times .clock));
+    latest = λ q. (unfold latestTx in rw (past-not, and-false) (i .times .latest q));
     timeout = λ q. (unfold timeoutOf in rw (accepted-not, and-false) (i .times .timeout q));
     deadline = λ q z. rw (started-before (party m q .owned) e h (unfold showsOf in i .world .seenLow (party m q .owned) z (i .world .below q))) (i .times .deadline q z);
     opened = i .times .opened;
   }
     where
       accepted-not : accepted e ≡ false
-      accepted-not = unfold accepted in not-code 0 refl refl
+      accepted-not = unfold accepted in not-code (pos 0) refl
 
   no-commit : isOwnersCommit h e ≡ false
   unfolding isOwnersCommit
-  no-commit = rw (unheard, and-false)
+  no-commit = rw (past-not, and-false)
 
   reached-refused′ : Reached m (e ∷ h)
   unfolding holds
@@ -93,7 +94,7 @@ module _ (m : Monitor) (h : List Event) (i : Reached m h) (c : Call) (n : ℕ) (
       alone-quiet : aloneRule h e ≡ true
       alone-quiet = unfold aloneRule in rw no-commit
 
-  reached-refused : Reached (turnedDown m (pos n) .monitor) (eventBy c (turnedDown m (pos n) .answer) ∷ h)
+  reached-refused : Reached (turnedDown m code .monitor) (eventBy c (turnedDown m code .answer) ∷ h)
   unfolding e
   reached-refused = unfold turnedDown in reached-refused′
 
@@ -103,8 +104,8 @@ unfolding callOf
 reached-call m h i c = byTest (λ (s : Stepped). Reached (s .monitor) (eventBy c (s .answer) ∷ h))
     (λ k. byTest (λ (s : Stepped). Reached (s .monitor) (eventBy c (s .answer) ∷ h))
     (λ p. let b = leb-true (c .party) 15 p in unfold eventOf eventBy in reached-next m h i c k (omega arith))
-    (λ _. reached-refused m h i c 21 refl))
-    (λ _. reached-refused m h i c 20 refl)
+    (λ _. reached-refused m h i c unknownParty refl))
+    (λ _. reached-refused m h i c unknownKind refl)
 
 pub reached-step : (m : Monitor) (h : List Event) → Reached m h → (c : Call) → Reached (stepOf m c .monitor) (eventBy c (stepOf m c .answer) ∷ h)
 unfolding stepOf

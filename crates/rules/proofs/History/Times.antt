@@ -2,7 +2,7 @@
 -- Assumes nothing.
 use mathlib.Core.Path.{_≡_, refl, sym, ap, _∙_}
 use mathlib.Core.Bool.{true, false, cond, not, _&&_, _||_}
-use mathlib.Core.List.{List, [], _∷_}
+use mathlib.Core.List.{List, _∷_}
 use Prim.Native.Nat.{ℕ, suc, _+_, _≤_, max}
 use native.Mathlib.Omega.{arith}
 use lib.Dec.{eqb, ltb, leb}
@@ -102,7 +102,8 @@ module _ (m : Monitor) (h : List Event) (c : Call) (r : Ruled) (f : Fine m) (k :
 
       served : look (party m q .served) (live (r .monitor)) .tx ≡ look (party m q .served) (live m) .tx
       served = test (same (party m q .served) 0) (zero-tx _) (λ z.
-          served-tx c (c .party) (m .lastlink) (m .lasttx) (λ q. party m q) (λ d. look d (live m)) (r .monitor .lastlink) (r .monitor .lasttx) (λ q. party (r .monitor) q) (λ d. look d (live (r .monitor))) q
+          served-tx c (c .party) (m .lastlink) (m .lasttx) (λ q. party m q) (λ d. look d (live m))
+          (r .monitor .lastlink) (r .monitor .lasttx) (λ q. party (r .monitor) q) (λ d. look d (live (r .monitor))) q
           (f .works q z) (link-low m (f .frame) _ (served-there m f q z)) z (k .others q n .served′) (k .move))
 
   past : past21 e ≡ true

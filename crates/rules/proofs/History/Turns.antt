@@ -9,16 +9,16 @@ use lib.Dec.{eqb}
 use lib.IntN.{pos}
 use borrow.Author.Tests.{eqb-true, eq-eqb}
 use Rattle.rules.specs.Choice.{pick, same}
-use Rattle.rules.specs.Record.{isConversation, isWaiting}
-use Rattle.rules.specs.Requests.{working}
+use Rattle.rules.specs.Record.{isConversation, isWaiting, working}
 use Rattle.rules.specs.History.{Event, some, ofKind, by, answeredBy, withEvent, linkOn, on, isSend, givenSendOnly, senderRule}
 use Rattle.rules.specs.declared.Call.{Call}
 use Rattle.rules.specs.declared.Link.{Link}
 use Rattle.rules.specs.declared.Party.{Party}
 use Rattle.rules.proofs.Logic.{Nz, pick-true, pick-false, byTest, test, not-both, same-refl, same-true, same-ne, and-false, or-l, or-r, and-comm}
+use Rattle.rules.proofs.Fine.{noLink}
 use Rattle.rules.proofs.History.Tells.{Tell, nothing, sent, given, taken, tellOf}
 use Rattle.rules.proofs.History.Moves
-use Rattle.rules.proofs.History.Moves.{noLink, Like, Left, alike, gone, shut, back, End, origin, service, Sends, Grants, Makes, Takes, Move}
+use Rattle.rules.proofs.History.Moves.{Like, Left, alike, gone, shut, back, End, origin, service, Sends, Grants, Makes, Takes, Move}
 use Rattle.rules.proofs.History.Left.{fades}
 use Rattle.rules.proofs.History.Sending.{anySent, barred, sender-rule, sendsAt, givesAt, tells-send, tells-given}
 

@@ -8,7 +8,8 @@ use Rattle.rules.specs.Record.{isAttached, isWaiting, isWorking, isRetur
 use Rattle.rules.specs.declared.Link.{Link}
 use Rattle.rules.specs.declared.Party.{Party}
 use Rattle.rules.proofs.Logic.{Nz}
-use Rattle.rules.proofs.History.Moves.{isEnding, isWhole, txP}
+use Rattle.rules.proofs.Fine.{txP}
+use Rattle.rules.proofs.History.Moves.{isEnding, isWhole}
 use Rattle.rules.proofs.History.Shows.{Shows}
 
 -- with the last link number n and the last transaction number m

@@ -10,8 +10,9 @@ use Rattle.rules.specs.Record.{isAttached, isWorking, isRollbackOnly}
 use Rattle.rules.specs.declared.Link.{Link}
 use Rattle.rules.specs.declared.Party.{Party}
 use Rattle.rules.proofs.Logic.{Nz, pick-true, pick-false, same-refl, same-true, same-false, same-ne, test, not-both, and-l, and-r, and-false, or-l, or-true, above-nz, nz-other}
+use Rattle.rules.proofs.Fine.{noLink, txP}
 use Rattle.rules.proofs.History.Tells.{nothing, sent, given, finished, disconnected, left}
-use Rattle.rules.proofs.History.Moves.{noLink, txP, Like, Left, gone, Idle, Sends, Grants, Finishes, Cancels, Hangs, Leaves, Ends}
+use Rattle.rules.proofs.History.Moves.{Like, Left, gone, Idle, Sends, Grants, Finishes, Cancels, Hangs, Leaves, Ends}
 use Rattle.rules.proofs.History.Shows.{Shows, Next}
 use Rattle.rules.proofs.History.World.{World}
 use Rattle.rules.proofs.History.Left.{left-nought, left-open, left-working, fades, fades-works}

@@ -5,8 +5,9 @@ use Prim.Native.Nat.{ℕ}
 use Rattle.rules.specs.declared.Call.{Call}
 use Rattle.rules.specs.declared.Link.{Link}
 use Rattle.rules.specs.declared.Party.{Party}
+use Rattle.rules.proofs.Fine.{txP}
 use Rattle.rules.proofs.History.Tells.{Tell, canStart}
-use Rattle.rules.proofs.History.Moves.{txP, Kept, Move, quiet, sends, grants, finishes, cancels, hangs, leaves, ends, begins, renews, makes, makesFree, takes}
+use Rattle.rules.proofs.History.Moves.{Kept, Move, quiet, sends, grants, finishes, cancels, hangs, leaves, ends, begins, renews, makes, makesFree, takes}
 use Rattle.rules.proofs.History.Shows.{Shows, Next}
 use Rattle.rules.proofs.History.World.{World}
 use Rattle.rules.proofs.History.Stamped.{sane}

@@ -1,10 +1,10 @@
 -- How the walk makes a `Moved`: of a question, of a refusal, and of what a rule changes.
 -- Assumes nothing.
-use mathlib.Core.Path.{_≡_, refl, sym, ap, _∙_}
+use mathlib.Core.Path.{_≡_, refl, sym, _∙_}
 use mathlib.Core.Bool.{Bool, true, false}
 use Prim.Native.Nat.{ℕ, _<_}
 use lib.IntN.{ℤ, pos}
-use lib.ListN.{getD, set}
+use lib.ListN.{set}
 use lib.Seq.{getD-set-same, getD-set-other}
 use Rattle.rules.specs.Choice.{pick, same}
 use Rattle.rules.specs.Record.{freshParty, isOpened, party, live, withParty, ruled, valued, ask}
@@ -18,7 +18,7 @@ use Rattle.rules.proofs.Logic.{byTest, Nz, same-false, or-l, and-l, not
 use Rattle.rules.proofs.Fine.{look, Shape, Frame, Fine}
 use Rattle.rules.proofs.Parties.{party-frame, Marks, plain, marked}
 use Rattle.rules.proofs.History.Tells.{Tell, nothing}
-use Rattle.rules.proofs.History.Moves.{Idle, Kept, Move, quiet}
+use Rattle.rules.proofs.History.Moves.{Idle, Begins, Makes, Kept, Move, quiet}
 use Rattle.rules.proofs.History.Left.{like-refl}
 use Rattle.rules.proofs.History.Walk.Moved.{eventOf, timeAfter, Stays, Own, Moved, keeps}
 use Rattle.rules.proofs.History.Walk.Says.{isPast, isSilent, isQuiet, isPlain, isTimed, Says, says-quiet, says-accepted, says-valueless, tells-plain, time-refused, time-kept}
@@ -34,6 +34,12 @@ KeptTo m c m′ = Kept c (c .party) (m .lastlink) (m .lasttx) (λ q. party m q) 
 
 abbrev pub IdleTo : Monitor → Monitor → Type 0
 IdleTo m m′ = Idle (λ q. party m q) (λ d. look d (live m)) (λ q. party m′ q) (λ d. look d (live m′))
+
+abbrev pub BeginsTo : Monitor → Monitor → ℕ → ℕ → Type 0
+BeginsTo m m′ p t = Begins (λ q. party m q) (λ d. look d (live m)) (λ q. party m′ q) (λ d. look d (live m′)) p t
+
+abbrev pub MakesTo : Monitor → Monitor → ℕ → ℕ → ℕ → Type 0
+MakesTo m m′ p d x = Makes (λ q. party m q) (λ e. look e (live m)) (λ q. party m′ q) (λ e. look e (live m′)) p d x
 
 -- an answer on a link: with an event and a token, and no value
 abbrev pub replied : Monitor → ℤ → ℕ → ℕ → Ruled
@@ -59,23 +65,29 @@ marks-stay x y (marked e) = rw e (record { opened′ = refl; timeout′ = refl; 
 pub idle-parties : (m m′ : Monitor) → m′ .parties ≡ m .parties → IdleTo m m′
 idle-parties m m′ e = record { owned′ = λ q. rw e; served′ = λ q. rw e; mark′ = λ q. rw e }
 
--- ---- the parties stay: rules on links alone
-pub moved-links : (m : Monitor) (c : Call) (r : Ruled) (t : Tell) → Frame (r .monitor) → r .monitor .clock ≡ m .clock → r .monitor .parties ≡ m .parties
+-- ---- every party stays, the caller too
+pub moved-stays : (m : Monitor) (c : Call) (r : Ruled) (t : Tell) → Frame (r .monitor) → r .monitor .clock ≡ m .clock
+    → ((q : ℕ) → Stays (party m q) (party (r .monitor) q)) → ((q : ℕ) → choicesGood (party m q) ≡ true → choicesGood (party (r .monitor) q) ≡ true)
     → timeAfter (eventOf c r) (party m (c .party) .timeout) ≡ party m (c .party) .timeout → Says c r t → MoveTo m c (r .monitor) t → Moved m c r
-moved-links m c r t f k e h s v = record {
+moved-stays m c r t f k st g h s v = record {
   frame = f;
   clock′ = k;
-  choices = λ q g. rw e g;
-  others = λ q _. rw e (stays-self (party m q));
-  own = rw e (keeps refl refl);
-  timeout′ = ap (λ ps. getD ps (c .party) freshParty .timeout) e ∙ sym h;
-  opened′ = λ o n. rw e (o (rw e at n));
+  choices = g;
+  others = λ q _. st q;
+  own = keeps (st (c .party) .owned′) (st (c .party) .deadline′);
+  timeout′ = st (c .party) .timeout′ ∙ sym h;
+  opened′ = λ o n. rw (st (c .party) .opened′) (o (rw (st (c .party) .owned′) at n));
   past = s .past;
   valueless = s .valueless;
   tell = t;
   tells = s .tells;
   move = v;
 }
+
+-- rules on links alone
+pub moved-links : (m : Monitor) (c : Call) (r : Ruled) (t : Tell) → Frame (r .monitor) → r .monitor .clock ≡ m .clock → r .monitor .parties ≡ m .parties
+    → timeAfter (eventOf c r) (party m (c .party) .timeout) ≡ party m (c .party) .timeout → Says c r t → MoveTo m c (r .monitor) t → Moved m c r
+moved-links m c r t f k e h s v = moved-stays m c r t f k (λ q. rw e (stays-self (party m q))) (λ q g. rw e g) h s v
 
 -- ---- nothing changes
 unmoved : {m : Monitor} {c : Call} (code : ℤ) → Fine m → timeAfter (eventOf c (ruled m code)) (party m (c .party) .timeout) ≡ party m (c .party) .timeout
@@ -94,7 +106,7 @@ refused {m} {c} code h f = unmoved code f (time-refused c (ruled m code) _ (not-
 pub moved-still : {m : Monitor} {c : Call} (k : ℕ) → c .kind ≡ k → isPlain k ≡ true → isTimed k ≡ false → (code : ℤ) → isPast code ≡ true → Fine m → Moved m c (ruled m code)
 moved-still {m} {c} k e h i code z f = unmoved code f (time-kept c (ruled m code) _ k e i) (says-valueless c (ruled m code) refl z (tells-plain c (ruled m code) k e h))
 
--- ---- the caller's own record becomes x, and no other party's changes
+-- ---- party p's record becomes x, and no other party's changes
 pub record OwnOnly (m m′ : Monitor) (p : ℕ) (x : Party) : Type 0 where
   pub here : party m′ p ≡ x
   pub there : (q : ℕ) → same q p ≡ false → party m′ q ≡ party m q
@@ -112,6 +124,15 @@ own-then f g = record { here = g .here; there = λ q e. g .there q e ∙ f .ther
 -- a fact of every party's record, from x's and the others'
 pub own-all : {m m′ : Monitor} {p : ℕ} {x : Party} (P : ℕ → Party → Type 0) → OwnOnly m m′ p x → P p x → ((q : ℕ) → P q (party m q)) → (q : ℕ) → P q (party m′ q)
 own-all {m′} {p} P o h g = byNumber p (λ q. P q (party m′ q)) (rw (o .here) h) (λ q e. rw (o .there q e) (g q))
+
+-- its transaction, its served link and its mark are as they were
+own-idle : {m m′ : Monitor} {p : ℕ} {x : Party} → OwnOnly m m′ p x → x .owned ≡ party m p .owned → x .served ≡ party m p .served
+    → x .rollbackonly ≡ party m p .rollbackonly → IdleTo m m′
+own-idle {m} o a b c = record {
+  owned′ = own-all (λ q y. y .owned ≡ party m q .owned) o a (λ _. refl);
+  served′ = own-all (λ q y. y .served ≡ party m q .served) o b (λ _. refl);
+  mark′ = own-all (λ q y. y .rollbackonly ≡ party m q .rollbackonly) o c (λ _. refl);
+}
 
 pub moved-own : (m : Monitor) (c : Call) (r : Ruled) (x : Party) (t : Tell) → Frame (r .monitor) → r .monitor .clock ≡ m .clock → OwnOnly m (r .monitor) (c .party) x
     → (choicesGood (party m (c .party)) ≡ true → choicesGood x ≡ true)
@@ -151,10 +172,17 @@ moved-quiet m c v x k f b e h w =
     let o : OwnOnly m (withParty m (c .party) x) (c .party) x = own-set m (withParty m (c .party) x) (c .party) x (f .frame .shape) b refl in
     moved-own m c r x nothing (party-frame m (f .frame .shape) (c .party) b x (f .frame)) refl o
     (w .good) (keeps (w .owned′) (w .deadline′)) (w .time′) (w .opened′) (says-accepted c r refl (tells-plain c r k e h))
-    (quiet (record { link = refl; tx = refl })
-    (record {
-      owned′ = own-all (λ q y. y .owned ≡ party m q .owned) o (w .owned′) (λ _. refl);
-      served′ = own-all (λ q y. y .served ≡ party m q .served) o (w .served′) (λ _. refl);
-      mark′ = own-all (λ q y. y .rollbackonly ≡ party m q .rollbackonly) o (w .mark′) (λ _. refl);
-    })
-    (λ _. like-refl refl) (λ _. refl))
+    (quiet (record { link = refl; tx = refl }) (own-idle o (w .owned′) (w .served′) (w .mark′)) (λ _. like-refl refl) (λ _. refl))
+
+-- ---- the same of party i, the caller or another, that stays and keeps its mark
+pub moved-party : (m : Monitor) (c : Call) (v i : ℕ) (x : Party) (k : ℕ) → Fine m → i < 16 → c .kind ≡ k → isPlain k ≡ true → isTimed k ≡ false
+    → Stays (party m i) x → x .rollbackonly ≡ party m i .rollbackonly → (choicesGood (party m i) ≡ true → choicesGood x ≡ true)
+    → Moved m c (valued (withParty m i x) v)
+moved-party m c v i x k f b e h u st mk g =
+    let r = valued (withParty m i x) v in
+    let o : OwnOnly m (withParty m i x) i x = own-set m (withParty m i x) i x (f .frame .shape) b refl in
+    moved-stays m c r nothing (party-frame m (f .frame .shape) i b x (f .frame)) refl
+    (own-all (λ q y. Stays (party m q) y) o st (λ q. stays-self (party m q)))
+    (own-all (λ q y. choicesGood (party m q) ≡ true → choicesGood y ≡ true) o g (λ _ y. y))
+    (time-kept c r _ k e u) (says-accepted c r refl (tells-plain c r k e h))
+    (quiet (record { link = refl; tx = refl }) (own-idle o (st .owned′) (st .served′) mk) (λ _. like-refl refl) (λ _. refl))

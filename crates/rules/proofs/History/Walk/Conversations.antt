@@ -5,26 +5,27 @@ use mathlib.Core.Bool.{Bool, true, false, not, _||_}
 use mathlib.Core.List.{List}
 use Prim.Native.Nat.{ℕ, _<_}
 use lib.Dec.{eqb, leb}
-use lib.IntN.{ℤ, pos}
+use lib.IntN.{ℤ}
 use lib.ListN.{getD}
 use Rattle.rules.specs.Choice.{same}
-use Rattle.rules.specs.Record.{freshLink, freshParty, isConversation, isAttached, isWorking, isReturned, ownEnd, party, live, linkOf, changed, removed, cutOff, valued}
+use Rattle.rules.specs.Codes.{badArgument, notAllowedNow, noSuchEnd, timedOut, nothingUnread, unreadFull, accepted, tpeEvent}
+use Rattle.rules.specs.Record.{freshLink, freshParty, isConversation, isAttached, isWorking, isReturned, ownEnd, party, live, linkOf, changed, removed, cutOff, valued, notified, withSent, withoutOldest}
 use Rattle.rules.specs.Transaction.{doom, doomedIn}
-use Rattle.rules.specs.Conversations.{originatorEnd, serverEnd, anyEnd, hearsCut, hearsReturn, endSide, holds, notified, tellsCut, tellsReturn, withSent, sendOn, sendOf, withoutOldest, received, receiveOn, receiveOf, hungUp, disconnectOf}
+use Rattle.rules.specs.Conversations.{originatorEnd, serverEnd, anyEnd, hearsCut, hearsReturn, endSide, holds, tellsCut, tellsReturn, sendOn, sendOf, received, receiveOn, receiveOf, hungUp, disconnectOf}
 use Rattle.rules.specs.declared.Call.{Call}
 use Rattle.rules.specs.declared.Link.{Link}
 use Rattle.rules.specs.declared.Monitor.{Monitor}
 use Rattle.rules.specs.declared.Party.{Party}
 use Rattle.rules.proofs.Logic.{byTest, not-both, same-true, and-l, and-r, or-cases, Nz}
-use Rattle.rules.proofs.Fine.{look, Frame, Fine}
+use Rattle.rules.proofs.Fine.{noLink, look, Frame, Fine}
 use Rattle.rules.proofs.Parties.{doom-length, doom-either, doom-miss, doom-hit, doom-free, Marks, plain, marked, marks-good}
 use Rattle.rules.proofs.Changes.{parties-frame, changed-clock, changed-lastlink, changed-lasttx, changed-parties, changed-same, changed-other, changed-frame, changed-by, removed-same, removed-other, removed-frame, removed-parties, removed-clock, removed-lastlink, removed-lasttx}
 use Rattle.rules.proofs.History.Tells.{Tell, nothing, sent, given, disconnected}
-use Rattle.rules.proofs.History.Moves.{noLink, End, Like, Left, Move}
+use Rattle.rules.proofs.History.Moves.{End, Like, Left, Move}
 use Rattle.rules.proofs.History.Left.{like-refl}
-use Rattle.rules.proofs.History.Walk.Moved.{Stays, Own, Moved}
+use Rattle.rules.proofs.History.Walk.Moved.{Stays, Moved}
 use Rattle.rules.proofs.History.Walk.Says.{Says, isTimed, says-sent, says-received, says-given, says-ended, says-cut, says-disconnected, time-kept}
-use Rattle.rules.proofs.History.Walk.Base.{MoveTo, KeptTo, IdleTo, ask-moved, pick-moved, refused, idle-parties, moved-links, marks-stay, replied}
+use Rattle.rules.proofs.History.Walk.Base.{MoveTo, KeptTo, IdleTo, ask-moved, pick-moved, refused, idle-parties, moved-stays, moved-links, marks-stay, replied}
 use Rattle.rules.proofs.History.Walk.LinkChanges.{returned-ending, returned-rests, working-waits-not, notified-like, withSent-like, withoutOldest-like, cutOff-left}
 use Rattle.rules.proofs.History.Walk.Requests.{Found, found, changed-kept, finish-moved}
 
@@ -109,7 +110,7 @@ module _ (m : Monitor) (c : Call) (fine : Fine m) (timeless : isTimed (c .kind) 
   cut-moved : hearsCut (c .party) (linkOf m (c .a)) ≡ true → Moved m c (tellsCut m (c .a) (linkOf m (c .a)))
   unfolding hearsCut tellsCut
   cut-moved e = let k = notified-like (linkOf m (c .a)) (and-r (not (originatorEnd (c .party) (linkOf m (c .a)))) _ e) in
-      like-moved m c fine timeless f (notified (linkOf m (c .a))) k (pos 29) 1 0 nothing (says-cut c _ kinds refl refl refl)
+      like-moved m c fine timeless f (notified (linkOf m (c .a))) k tpeEvent 1 0 nothing (says-cut c _ kinds refl refl refl)
       (quiet-move m c fine timeless f (notified (linkOf m (c .a))) k refl)
 
   return-moved : hearsReturn (c .party) (linkOf m (c .a)) ≡ true → Moved m c (tellsReturn m (c .a) (linkOf m (c .a)))
@@ -118,7 +119,7 @@ module _ (m : Monitor) (c : Call) (fine : Fine m) (timeless : isTimed (c .kind) 
       let i = f .is in
       let o = originator-end (c .party) (linkOf m (c .a)) (and-l _ _ e) in
       let r : isReturned (look (c .a) (live m)) ≡ true = rw i at (and-l (isReturned (linkOf m (c .a))) _ (and-r (originatorEnd (c .party) (linkOf m (c .a))) _ e)) in
-      finish-moved m c fine timeless (pos 29) (linkOf m (c .a) .outcome) (linkOf m (c .a) .ending)
+      finish-moved m c fine timeless (c .a) (tellsReturn m (c .a) (linkOf m (c .a))) refl
       (says-ended c _ kinds refl refl (rw i (returned-ending (look (c .a) (live m)) (fine .links (c .a)) r)))
       (f .there′) (sym (ap (λ y. y .originator) i) ∙ o .originator) (returned-rests (look (c .a) (live m)) r)
 
@@ -139,7 +140,7 @@ send-moved m c fine pb k =
     ask-moved (λ h. ask-moved (λ r.
     let l′ = withSent (linkOf m (c .a)) (c .b) (c .c) in
     let y = withSent-like (linkOf m (c .a)) (c .b) (c .c) b r in
-    like-moved m c fine (rw k) f l′ y (pos 0) 0 0 (sent (c .a)) (says-sent c _ k refl)
+    like-moved m c fine (rw k) f l′ y accepted 0 0 (sent (c .a)) (says-sent c _ k refl)
     (Move.sends (changed-kept m c (c .a) l′) (c .a) (record {
       idle = idles m c fine (rw k) f l′ y;
       like = likes m c fine (rw k) f l′ y;
@@ -150,20 +151,20 @@ send-moved m c fine pb k =
       end = any-end _ _ e′;
       sender = holds-side (c .party) _ (rw i at (and-l (holds (c .party) (linkOf m (c .a))) _ h));
     })))
-    (λ _. refused (pos 32) refl fine))
-    (λ _. refused (pos 23) refl fine))))
-    (λ _. refused (pos 28) refl fine))
-    (λ _. refused (pos 22) refl fine))
-    (λ _. refused (pos 24) refl fine)
+    (λ _. refused unreadFull refl fine))
+    (λ _. refused notAllowedNow refl fine))))
+    (λ _. refused timedOut refl fine))
+    (λ _. refused badArgument refl fine))
+    (λ _. refused noSuchEnd refl fine)
 
 -- ---- 18 receive
 module _ (m : Monitor) (c : Call) (fine : Fine m) (k : c .kind ≡ 18) (f : Found m (c .a)) (e : anyEnd (c .party) (look (c .a) (live m)) ≡ true) where
-  given-moved : Moved m c (replied (changed m (c .a) (withoutOldest (linkOf m (c .a)) (endSide (c .party) (linkOf m (c .a))) 0)) (pos 29) 32 (getD (linkOf m (c .a) .unread) 0 0))
+  given-moved : Moved m c (replied (changed m (c .a) (withoutOldest (linkOf m (c .a)) (endSide (c .party) (linkOf m (c .a))) 0)) tpeEvent 32 (getD (linkOf m (c .a) .unread) 0 0))
   given-moved =
       let i = f .is in
       let l′ = withoutOldest (linkOf m (c .a)) (endSide (c .party) (linkOf m (c .a))) 0 in
       let y = withoutOldest-like (linkOf m (c .a)) (endSide (c .party) (linkOf m (c .a))) 0 (λ _. side-small (c .party) (linkOf m (c .a))) (λ _. refl) in
-      like-moved m c fine (rw k) f l′ y (pos 29) 32 (getD (linkOf m (c .a) .unread) 0 0) (given (c .a)) (says-given c _ k refl refl refl)
+      like-moved m c fine (rw k) f l′ y tpeEvent 32 (getD (linkOf m (c .a) .unread) 0 0) (given (c .a)) (says-given c _ k refl refl refl)
       (Move.grants (changed-kept m c (c .a) l′) (c .a) (record {
         idle = idles m c fine (rw k) f l′ y;
         like = likes m c fine (rw k) f l′ y;
@@ -175,11 +176,11 @@ module _ (m : Monitor) (c : Call) (fine : Fine m) (k : c .kind ≡ 18) (f : Foun
         sender = ap (λ x. x .sender) (changed-same m (fine .frame) (c .a) (f .there′) l′ (f .number)) ∙ ap (endSide (c .party)) i;
       }))
 
-  oldest-moved : Moved m c (replied (changed m (c .a) (withoutOldest (linkOf m (c .a)) (linkOf m (c .a) .sender) (linkOf m (c .a) .granting))) (pos 0) 0 (getD (linkOf m (c .a) .unread) 0 0))
+  oldest-moved : Moved m c (replied (changed m (c .a) (withoutOldest (linkOf m (c .a)) (linkOf m (c .a) .sender) (linkOf m (c .a) .granting))) accepted 0 (getD (linkOf m (c .a) .unread) 0 0))
   oldest-moved =
       let l′ = withoutOldest (linkOf m (c .a)) (linkOf m (c .a) .sender) (linkOf m (c .a) .granting) in
       let y = withoutOldest-like (linkOf m (c .a)) (linkOf m (c .a) .sender) (linkOf m (c .a) .granting) (λ h. h .sender) (λ h. h .granting) in
-      like-moved m c fine (rw k) f l′ y (pos 0) 0 (getD (linkOf m (c .a) .unread) 0 0) nothing (says-received c _ k refl) (quiet-move m c fine (rw k) f l′ y refl)
+      like-moved m c fine (rw k) f l′ y accepted 0 (getD (linkOf m (c .a) .unread) 0 0) nothing (says-received c _ k refl) (quiet-move m c fine (rw k) f l′ y refl)
 
 pub receive-moved : (m : Monitor) (c : Call) → Fine m → c .party < 16 → c .kind ≡ 18 → Moved m c (receiveOf m (c .party) (c .a))
 unfolding receiveOf receiveOn received
@@ -191,10 +192,10 @@ receive-moved m c fine pb k =
     pick-moved (λ h. cut-moved m c fine (rw k) (rw k) f h) (λ _.
     pick-moved (λ h. return-moved m c fine (rw k) (rw k) f h) (λ _.
     ask-moved (λ _. ask-moved (λ _. pick-moved (λ _. given-moved m c fine k f e′) (λ _. oldest-moved m c fine k f e′))
-    (λ _. refused (pos 32) refl fine))
-    (λ _. refused (pos 23) refl fine))))
-    (λ _. refused (pos 28) refl fine))
-    (λ _. refused (pos 24) refl fine)
+    (λ _. refused nothingUnread refl fine))
+    (λ _. refused notAllowedNow refl fine))))
+    (λ _. refused timedOut refl fine))
+    (λ _. refused noSuchEnd refl fine)
 
 -- ---- 19 disconnect
 -- the link's transaction is doomed, and the link goes or is cut
@@ -210,32 +211,19 @@ module _ (m : Monitor) (c : Call) (fine : Fine m) (k : c .kind ≡ 19) (was : is
       → (isWorking (look (c .a) (live m)) ≡ true → isWorking (look (c .a) (live m′)) ≡ true) → ((e : ℕ) → same e (c .a) ≡ false → look e (live m′) ≡ look e (live m))
       → Moved m c (valued m′ 0)
   hang-moved fr ck kept left works others =
-      let says = says-disconnected c (valued m′ 0) k refl in
-      record {
-        frame = fr;
-        clock′ = ck;
-        choices = λ q. marks-good _ _ (marks q);
-        others = λ q _. stays q;
-        own = Own.keeps (stays (c .party) .owned′) (stays (c .party) .deadline′);
-        timeout′ = stays (c .party) .timeout′ ∙ sym (time-kept c (valued m′ 0) (party m (c .party) .timeout) 19 k refl);
-        opened′ = λ h n. rw (stays (c .party) .opened′) (h (rw (stays (c .party) .owned′) at n));
-        past = says .past;
-        valueless = says .valueless;
-        tell = disconnected (c .a);
-        tells = says .tells;
-        move = Move.hangs kept (c .a) (record {
-          was = was;
-          there = th;
-          fade = left;
-          fadeWorks = works;
-          others = others;
-          owned′ = λ q. stays q .owned′;
-          served′ = λ q. stays q .served′;
-          hit = λ u q n e. rw (ps, doom-hit (look (c .a) (live m) .tx) n q (m .parties) e (λ r y. u r q (rw y n) (y ∙ sym e)));
-          miss = λ q n. ap (λ (x : List Party). getD x q freshParty .rollbackonly) ps ∙ ap (λ x. x .rollbackonly) (doom-miss (look (c .a) (live m) .tx) q (m .parties) n);
-          unowned = λ q e. ap (λ (x : List Party). getD x q freshParty .rollbackonly) ps ∙ ap (λ x. x .rollbackonly) (doom-free (look (c .a) (live m) .tx) q (m .parties) e);
-        });
-      }
+      moved-stays m c (valued m′ 0) (disconnected (c .a)) fr ck stays (λ q. marks-good _ _ (marks q)) (time-kept c _ _ 19 k refl) (says-disconnected c _ k refl)
+      (Move.hangs kept (c .a) (record {
+        was = was;
+        there = th;
+        fade = left;
+        fadeWorks = works;
+        others = others;
+        owned′ = λ q. stays q .owned′;
+        served′ = λ q. stays q .served′;
+        hit = λ u q n e. rw (ps, doom-hit (look (c .a) (live m) .tx) n q (m .parties) e (λ r y. u r q (rw y n) (y ∙ sym e)));
+        miss = λ q n. ap (λ (x : List Party). getD x q freshParty .rollbackonly) ps ∙ ap (λ x. x .rollbackonly) (doom-miss (look (c .a) (live m) .tx) q (m .parties) n);
+        unowned = λ q e. ap (λ (x : List Party). getD x q freshParty .rollbackonly) ps ∙ ap (λ x. x .rollbackonly) (doom-free (look (c .a) (live m) .tx) q (m .parties) e);
+      }))
 
 pub disconnect-moved : (m : Monitor) (c : Call) → Fine m → c .party < 16 → c .kind ≡ 19 → Moved m c (disconnectOf m (c .party) (c .a))
 unfolding disconnectOf hungUp
@@ -257,4 +245,4 @@ disconnect-moved m c fine pb k =
     (removed-frame (doom m t) fr₁ (c .a)) (removed-clock (doom m t) (c .a))
     (record { link = removed-lastlink (doom m t) (c .a); tx = removed-lasttx (doom m t) (c .a) })
     (Left.gone (removed-same (doom m t) fr₁ (c .a))) (λ y. not-both y (rw i at w)) (removed-other (doom m t) fr₁ (c .a))))
-    (λ _. refused (pos 24) refl fine)
+    (λ _. refused noSuchEnd refl fine)

@@ -5,15 +5,15 @@ use mathlib.Core.Bool.{true, false, _||_}
 use Prim.Native.Nat.{ℕ, _<_}
 use lib.ListN.{set, length-set}
 use Rattle.rules.specs.Choice.{same}
-use Rattle.rules.specs.Record.{isAttached, isWaiting, isWorking, isNotified, party, live, closed, cutOff}
-use Rattle.rules.specs.Transaction.{owningNone, orphaned, endOf, endTx}
+use Rattle.rules.specs.Record.{isAttached, isWaiting, isWorking, isNotified, party, live, owningNone, closed, cutOff}
+use Rattle.rules.specs.Transaction.{orphaned, endOf, endTx}
 use Rattle.rules.specs.declared.Link.{Link}
 use Rattle.rules.specs.declared.Monitor.{Monitor}
 use Rattle.rules.specs.declared.Party.{Party}
 use Rattle.rules.proofs.Logic.{byTest, Nz, same-refl, same-false, same-ne, not-both}
-use Rattle.rules.proofs.Fine.{look, Frame}
+use Rattle.rules.proofs.Fine.{noLink, look, Frame}
 use Rattle.rules.proofs.Changes.{Thin, none, one, Thins, leftIn, leftBy, collected-look, collected-frame}
-use Rattle.rules.proofs.History.Moves.{noLink, isWhole, Left, gone, Ends, Shut, shut}
+use Rattle.rules.proofs.History.Moves.{isWhole, Left, gone, Ends, Shut, shut}
 use Rattle.rules.proofs.History.Left.{left-refl}
 use Rattle.rules.proofs.History.Walk.LinkChanges.{working-waits-not, notified-cut, noLink-attached, noLink-waiting, noLink-working, closed-shut, cutOff-shut}
 use Rattle.rules.proofs.History.Walk.Base.{OwnOnly, own-set, own-all}

@@ -1,17 +1,16 @@
 -- The record after each step of a party's leaving: parties and links afterwards by those before.
 -- Assumes nothing.
 use mathlib.Core.Path.{_≡_, refl, sym, ap, _∙_}
-use mathlib.Core.List.{[]}
 use mathlib.Core.Bool.{true, false}
 use Prim.Native.Nat.{ℕ, _<_}
 use lib.Dec.{eqb}
 use lib.ListN.{getD}
 use borrow.Author.Tests.{eqb-true}
 use Rattle.rules.specs.Choice.{pick, same}
-use Rattle.rules.specs.Record.{freshParty, isConversation, isAttached, ownEnd, party, live, linkOf, changed}
-use Rattle.rules.specs.Transaction.{rollbackOnly, doom, owningNone, endTx}
+use Rattle.rules.specs.Record.{freshParty, isConversation, isAttached, ownEnd, party, live, linkOf, owningNone, rollbackOnly, returned, changed}
+use Rattle.rules.specs.Transaction.{doom, endTx}
 use Rattle.rules.specs.Conversations.{originatorEnd}
-use Rattle.rules.specs.Return.{closeEnd, doomedBy, closeOwn, endOwn, doomServed, returned, handBack}
+use Rattle.rules.specs.Return.{closeEnd, doomedBy, closeOwn, endOwn, doomServed, handBack}
 use Rattle.rules.specs.declared.Link.{Link}
 use Rattle.rules.specs.declared.Party.{Party}
 use Rattle.rules.specs.declared.Monitor.{Monitor}

@@ -7,14 +7,12 @@ use Prim.Native.Nat.{ℕ, _+_, _-_, _<_}
 use native.Mathlib.Omega.{arith}
 use lib.Dec.{eqb, leb, ltb}
 use borrow.Author.Tests.{eqb-true, leb-true, ltb-true, le-leb}
-use Rattle.rules.specs.Record.{isAttached, isWaiting, isWorking, isReturned, isDisconnected, isNotified, ownEnd, closed, cutOff, dropped}
-use Rattle.rules.specs.Requests.{newLink, working}
-use Rattle.rules.specs.Conversations.{notified, withSent, withoutOldest}
-use Rattle.rules.specs.Return.{returned}
+use Rattle.rules.specs.Record.{isAttached, isWaiting, isWorking, isReturned, isDisconnected, isNotified, ownEnd, withEnds, withUnread, closed, dropped, cutOff, notified, newLink, working, returned, withSent, withoutOldest}
 use Rattle.rules.specs.Sound.{linkGood}
 use Rattle.rules.specs.declared.Link.{Link}
 use Rattle.rules.proofs.Logic.{test, not-both, and-l, and-r, and-true, not-true, or-cases, or-true, same-refl}
-use Rattle.rules.proofs.History.Moves.{noLink, isEnding, isWhole, Like, Shut, Back, Left}
+use Rattle.rules.proofs.Fine.{noLink}
+use Rattle.rules.proofs.History.Moves.{isEnding, isWhole, Like, Shut, Back, Left}
 
 -- ---- a good link, taken apart
 pub record Parts (l : Link) : Type 0 where
@@ -109,24 +107,7 @@ returned-ending l g r = let h = parts l g in or-cases (eqb (l .outcome) 0) _ (h 
 
 -- ---- a link with another end, sender, grant, disconnection or unread
 abbrev adjusted : Link → (attached sender granting disconnected : ℕ) → List ℕ → ℕ → Link
-adjusted l a s g d u f = record {
-  number = l .number;
-  kind = l .kind;
-  originator = l .originator;
-  attached = a;
-  service = l .service;
-  tx = l .tx;
-  state = l .state;
-  server = l .server;
-  first = l .first;
-  outcome = l .outcome;
-  ending = l .ending;
-  sender = s;
-  granting = g;
-  disconnected = d;
-  unread = u;
-  filled = f;
-}
+adjusted l a s g d u f = withUnread (withEnds l a d) s g u f
 
 -- the choices that it holds instead are good, where the link was
 abbrev GoodChoices : Link → (attached sender granting disconnected filled : ℕ) → Type 0

@@ -15,7 +15,7 @@ use Rattle.rules.specs.declared.Party.{Party}
 use Rattle.rules.specs.declared.Ruled.{Ruled}
 use Rattle.rules.proofs.Logic.{Nz}
 use Rattle.rules.proofs.Fine.{look, Frame}
-use Rattle.rules.proofs.History.Tells.{Tell, tellOf}
+use Rattle.rules.proofs.History.Tells.{Tell, tellOf, Valueless}
 use Rattle.rules.proofs.History.Moves.{Move}
 
 -- the call and its answer
@@ -50,8 +50,7 @@ pub record Moved (m : Monitor) (c : Call) (r : Ruled) : Type 0 where
   pub opened′ : (Nz (party m (c .party) .owned) → isOpened (party m (c .party)) ≡ true)
       → Nz (party (r .monitor) (c .party) .owned) → isOpened (party (r .monitor) (c .party)) ≡ true
   pub past : past21 (eventOf c r) ≡ true
-  -- only an accepted call has a value
-  pub valueless : accepted (eventOf c r) ≡ false → r .value ≡ 0
+  pub valueless : Valueless (eventOf c r)
   pub tell : Tell
   pub tells : tellOf (eventOf c r) ≡ tell
   pub move : Move c (c .party) (m .lastlink) (m .lasttx) (λ q. party m q) (λ d. look d (live m))

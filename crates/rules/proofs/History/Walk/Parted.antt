@@ -7,8 +7,7 @@ use lib.Dec.{eqb}
 use lib.ListN.{getD}
 use borrow.Author.Tests.{eqb-true}
 use Rattle.rules.specs.Choice.{same}
-use Rattle.rules.specs.Record.{freshParty, isAttached, isWaiting, isWorking, isRollbackOnly, party, live, linkOf, withParty, changed}
-use Rattle.rules.specs.Requests.{serving}
+use Rattle.rules.specs.Record.{freshParty, isRollbackOnly, isAttached, isWaiting, isWorking, party, live, linkOf, serving, withParty, changed}
 use Rattle.rules.specs.Return.{unreadAfter, doomServed, servesNone, handBack, leave}
 use Rattle.rules.specs.declared.Link.{Link}
 use Rattle.rules.specs.declared.Party.{Party}

@@ -6,29 +6,30 @@ use Prim.Native.Nat.{ℕ, suc, _+_, _<_}
 use native.Mathlib.Numerals.{add-one}
 use native.Mathlib.Omega.{arith}
 use lib.Dec.{eqb, leb, ltb}
-use lib.IntN.{ℤ, pos}
 use lib.ListN.{getD}
 use borrow.Author.Tests.{eqb-true, eqb-false, leb-true, ltb-true}
 use Rattle.rules.specs.Choice.{pick, same}
-use Rattle.rules.specs.Record.{freshLink, isAttached, isRequest, isWaiting, isWorking, ownEnd, party, live, linkOf, withParty, replaced, changed, removed, added, closed, valued}
+use Rattle.rules.specs.Codes.{badArgument, notAllowedNow, noSuchEnd, notOffered, noRoomLeft, inTransaction, timedOut, nothingWaiting, noReplyYet}
+use Rattle.rules.specs.Record.{freshLink, isAttached, isRequest, isWaiting, isWorking, ownEnd, party, live, linkOf, withParty, replaced, changed, removed, added, closed, valued, serving, newLink, working}
 use Rattle.rules.specs.Transaction.{txOf, ended}
 use Rattle.rules.specs.Services.{isService}
-use Rattle.rules.specs.Requests.{noReply, noTran, recvOnly, linkTx, newLink, askLink, isBareNoReply, requestOf, connectOf, isIdle, fits, working, serving, dispatched, nextWaiting, dispatchOf, requestEnd, outcomeCode, fetched, fetchOf, cancelled, cancelOf}
+use Rattle.rules.specs.Requests.{noReply, noTran, recvOnly, linkTx, askLink, isBareNoReply, requestOf, connectOf, isIdle, fits, dispatched, nextWaiting, dispatchOf, requestEnd, outcomeCode, fetched, fetchOf, cancelled, cancelOf}
 use Rattle.rules.specs.History.{flag2}
 use Rattle.rules.specs.declared.Call.{Call}
 use Rattle.rules.specs.declared.Link.{Link}
 use Rattle.rules.specs.declared.Monitor.{Monitor}
 use Rattle.rules.specs.declared.Party.{Party}
+use Rattle.rules.specs.declared.Ruled.{Ruled}
 use Rattle.rules.proofs.Logic.{byTest, test, not-both, pick-true, pick-false, same-true, same-ne, and-l, and-r, not-true, Nz, zero-nz, suc-nz}
-use Rattle.rules.proofs.Fine.{look, Frame, Fine}
+use Rattle.rules.proofs.Fine.{noLink, txP, look, Frame, Fine}
 use Rattle.rules.proofs.Looks.{look-number, there, look-next, linkOf-look, txOf-txP, any-none}
 use Rattle.rules.proofs.Parties.{party-frame, live-owner, owned-none}
 use Rattle.rules.proofs.Changes.{first-fits, first-look, first-there, replaced-same, replaced-other, replaced-frame, changed-clock, changed-lastlink, changed-lasttx, changed-parties, changed-same, changed-other, changed-frame, removed-same, removed-other, removed-frame, removed-parties, removed-clock, removed-lastlink, removed-lasttx, added-new, added-other, added-frame}
 use Rattle.rules.proofs.History.Tells.{Tell, nothing, finished}
-use Rattle.rules.proofs.History.Moves.{noLink, txP, Left, Move, Makes}
+use Rattle.rules.proofs.History.Moves.{Left, Move}
 use Rattle.rules.proofs.History.Walk.Moved.{Moved, Own}
 use Rattle.rules.proofs.History.Walk.Says.{Says, isTimed, isFetched, says-made, says-made-flagged, says-made-free, says-taken, says-fetched, says-cancelled, time-kept}
-use Rattle.rules.proofs.History.Walk.Base.{MoveTo, KeptTo, ask-moved, refused, idle-parties, moved-links, own-set, own-all, moved-own, replied}
+use Rattle.rules.proofs.History.Walk.Base.{MoveTo, KeptTo, MakesTo, ask-moved, refused, idle-parties, moved-links, own-set, own-all, moved-own}
 use Rattle.rules.proofs.History.Walk.LinkChanges.{noLink-working, returned-rests, closed-left, newLink-good, own-end, noLink-own}
 
 -- ---- a link found by its number: under a test that neither a fresh link nor a missing one passes
@@ -50,28 +51,21 @@ changed-kept m c a l = record { link = changed-lastlink m a l; tx = changed-last
 pub removed-kept : (m : Monitor) (c : Call) (a : ℕ) → KeptTo m c (removed m a)
 removed-kept m c a = record { link = removed-lastlink m a; tx = removed-lasttx m a }
 
--- ---- link a, whose originator has learnt its end, goes
-pub finish-moved : (m : Monitor) (c : Call) → Fine m → isTimed (c .kind) ≡ false
-    → (code : ℤ) (event token : ℕ) → Says c (replied (removed m (c .a)) code event token) (finished (c .a))
-    → Nz (look (c .a) (live m) .number) → look (c .a) (live m) .originator ≡ c .party → isWorking (look (c .a) (live m)) ≡ false
-    → Moved m c (replied (removed m (c .a)) code event token)
-finish-moved m c fine kt code event token says th og rs =
-    moved-links m c _ (finished (c .a)) (removed-frame m (fine .frame) (c .a)) (removed-clock m (c .a)) (removed-parties m (c .a))
-    (time-kept c _ _ (c .kind) refl kt) says
-    (Move.finishes (removed-kept m c (c .a)) (c .a) (record {
-      idle = idle-parties m (removed m (c .a)) (removed-parties m (c .a));
+-- ---- link d, whose originator has learnt its end, goes: the record is the one without it
+pub finish-moved : (m : Monitor) (c : Call) → Fine m → isTimed (c .kind) ≡ false → (d : ℕ) (r : Ruled) → r .monitor ≡ removed m d → Says c r (finished d)
+    → Nz (look d (live m) .number) → look d (live m) .originator ≡ c .party → isWorking (look d (live m)) ≡ false → Moved m c r
+finish-moved m c fine kt d r e says th og rs =
+    let ps : r .monitor .parties ≡ m .parties = rw e (removed-parties m d) in
+    moved-links m c r (finished d) (rw e (removed-frame m (fine .frame) d)) (rw e (removed-clock m d)) ps
+    (time-kept c r _ (c .kind) refl kt) says
+    (Move.finishes (rw e (removed-kept m c d)) d (record {
+      idle = idle-parties m (r .monitor) ps;
       there = th;
       originator = og;
       rests = rs;
-      gone′ = removed-same m (fine .frame) (c .a);
-      others = removed-other m (fine .frame) (c .a);
+      gone′ = rw e (removed-same m (fine .frame) d);
+      others = rw e (removed-other m (fine .frame) d);
     }))
-
--- of a record that is the one without the link
-pub finish-as : (m : Monitor) (c : Call) (m′ : Monitor) (code : ℤ) (event token : ℕ) → m′ ≡ removed m (c .a)
-    → Moved m c (replied (removed m (c .a)) code event token)
-    → Moved m c (replied m′ code event token)
-finish-as m c m′ code event token e k = subst (λ (x : Monitor). Moved m c (replied x code event token)) (sym e) k
 
 -- ---- an open request end
 requestEnd-fresh : (p : ℕ) → requestEnd p freshLink ≡ false
@@ -101,12 +95,12 @@ fetch-moved m c fine pb k =
     ask-moved (λ e. let f = found m (fine .frame) (requestEnd (c .party)) (requestEnd-fresh (c .party)) (requestEnd-none (c .party)) (c .a) e in
     let i = f .is in
     ask-moved (λ _. ask-moved
-    (λ r. finish-as m c (fetched m (c .a) (linkOf m (c .a)) .monitor) _ _ _ refl (finish-moved m c fine (rw k) (outcomeCode (linkOf m (c .a) .outcome)) 0 (linkOf m (c .a) .ending)
-    (says-fetched c _ k refl (outcome-fetched (linkOf m (c .a) .outcome))) (f .there′)
-    (request-originator (c .party) _ (rw i at e)) (returned-rests (look (c .a) (live m)) (rw i at r))))
-    (λ _. refused (pos 32) refl fine))
-    (λ _. refused (pos 28) refl fine))
-    (λ _. refused (pos 24) refl fine)
+    (λ r. finish-moved m c fine (rw k) (c .a) (fetched m (c .a) (linkOf m (c .a))) refl
+    (says-fetched c _ k (outcome-fetched (linkOf m (c .a) .outcome))) (f .there′)
+    (request-originator (c .party) _ (rw i at e)) (returned-rests (look (c .a) (live m)) (rw i at r)))
+    (λ _. refused noReplyYet refl fine))
+    (λ _. refused timedOut refl fine))
+    (λ _. refused noSuchEnd refl fine)
 
 -- ---- 16 cancel
 pub cancel-moved : (m : Monitor) (c : Call) → Fine m → c .party < 16 → c .kind ≡ 16 → Moved m c (cancelOf m (c .party) (c .a))
@@ -140,8 +134,8 @@ cancel-moved m c fine pb k =
       fadeWorks = λ w. rw (s, i) w;
       others = changed-other m (fine .frame) (c .a) (f .there′) _ (f .number);
     }))))
-    (λ _. refused (pos 27) refl fine))
-    (λ _. refused (pos 24) refl fine)
+    (λ _. refused inTransaction refl fine))
+    (λ _. refused noSuchEnd refl fine)
 
 -- ---- 14 take
 record Idling (m : Monitor) (p : ℕ) : Type 0 where
@@ -202,8 +196,8 @@ pub dispatch-moved : (m : Monitor) (c : Call) → Fine m → c .party < 16 → c
 unfolding dispatchOf next
 dispatch-moved m c fine pb k =
     ask-moved (λ i. ask-moved (λ r. take-moved′ m c fine pb k i (ltb-true _ _ r))
-    (λ _. refused (pos 32) refl fine))
-    (λ _. refused (pos 23) refl fine)
+    (λ _. refused nothingWaiting refl fine))
+    (λ _. refused notAllowedNow refl fine)
 
 -- ---- 12, 13
 -- the caller's transaction as its link is made
@@ -234,7 +228,7 @@ module _ (m : Monitor) (c : Call) (fine : Fine m) (pb : c .party < 16) (kinds : 
     number-is = add-one (m .lastlink)
 
     made-makes : (Nz t → at ≡ 1) → (Nz t → t ≡ txOf m (c .party)) → ended m t ≡ false
-        → Makes (λ q. party m q) (λ d. look d (live m)) (λ q. party (added m (made-link t)) q) (λ d. look d (live (added m (made-link t)))) (c .party) (suc (m .lastlink)) t
+        → MakesTo m (added m (made-link t)) (c .party) (suc (m .lastlink)) t
     made-makes at1 own en =
         let is = added-new m (fine .frame) room (made-link t) number-is in
         record {
@@ -258,7 +252,7 @@ module _ (m : Monitor) (c : Call) (fine : Fine m) (pb : c .party < 16) (kinds : 
     -- of no transaction
     free-moved : t ≡ 0 → ended m t ≡ false → Says c (valued (added m (made-link t)) v) nothing → Moved m c (valued (added m (made-link t)) v)
     free-moved z en says = made-moved says (Move.makesFree (add-one (m .lastlink)) refl
-        (subst (λ (y : ℕ). Makes (λ q. party m q) (λ d. look d (live m)) (λ q. party (added m (made-link t)) q) (λ d. look d (live (added m (made-link t)))) (c .party) (suc (m .lastlink)) y)
+        (subst (λ (y : ℕ). MakesTo m (added m (made-link t)) (c .party) (suc (m .lastlink)) y)
         z (made-makes (zero-nz z) (zero-nz z) en)))
 
     -- of the caller's
@@ -284,7 +278,7 @@ module _ (m : Monitor) (c : Call) (fine : Fine m) (pb : c .party < 16) (kinds : 
   link-moved =
       ask-moved (λ en. ask-moved (λ _. ask-moved (λ _. ask-moved
       (λ r. making (ltb-true _ 32 (and-l _ _ r)) (ltb-true _ 60000 (and-r (ltb (m .count) 32) _ r)) (not-true _ en))
-      (λ _. refused (pos 26) refl fine)) (λ _. refused (pos 25) refl fine)) (λ _. refused (pos 28) refl fine)) (λ _. refused (pos 23) refl fine)
+      (λ _. refused noRoomLeft refl fine)) (λ _. refused notOffered refl fine)) (λ _. refused timedOut refl fine)) (λ _. refused notAllowedNow refl fine)
 
 -- in a transaction and without flag 2, a request's flags are 0
 no-flags : (b t : ℕ) → leb b 3 && not (isBareNoReply b && not (eqb t 0)) ≡ true → noTran b ≡ false → Nz t → noReply b ≡ false
@@ -306,11 +300,11 @@ request-moved m c fine pb k =
     link-moved m c fine pb (rw k) 0 (pick (noReply (c .b)) 0 1) (c .a) (c .c) 0 (pick (noReply (c .b)) 0 (m .lastlink + 1))
     refl (byTest (λ x. leb x 1 ≡ true) (λ _. refl) (λ _. refl)) refl
     (λ f n. pick-false _ _ _ (no-flags (c .b) _ h f n)) (λ f n. pick-false _ _ _ (no-flags (c .b) _ h f n)))
-    (λ _. refused (pos 22) refl fine)
+    (λ _. refused badArgument refl fine)
 
 pub connect-moved : (m : Monitor) (c : Call) → Fine m → c .party < 16 → c .kind ≡ 13 → Moved m c (connectOf m (c .party) (c .a) (c .b) (c .c))
 unfolding connectOf
 connect-moved m c fine pb k =
     ask-moved (λ _. link-moved m c fine pb (rw k) 1 1 (c .a) (c .c) (pick (recvOnly (c .b)) 1 0) (m .lastlink + 1)
     refl refl (byTest (λ x. leb x 1 ≡ true) (λ _. refl) (λ _. refl)) (λ _ _. refl) (λ _ _. refl))
-    (λ _. refused (pos 22) refl fine)
+    (λ _. refused badArgument refl fine)

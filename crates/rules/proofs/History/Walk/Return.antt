@@ -7,8 +7,7 @@ use lib.Dec.{eqb}
 use Rattle.rules.specs.Choice.{pick, same}
 use Rattle.rules.specs.Codes.{badArgument, notAllowedNow}
 use Rattle.rules.specs.Lists.{anyOf}
-use Rattle.rules.specs.Record.{freshParty, isAttached, isRollbackOnly, ownEnd, party, live, withParty, valued}
-use Rattle.rules.specs.Requests.{serving}
+use Rattle.rules.specs.Record.{freshParty, isRollbackOnly, isAttached, ownEnd, party, live, serving, withParty, valued}
 use Rattle.rules.specs.Sound.{choicesGood}
 use Rattle.rules.specs.Return.{plainOutcome, outcomeOf, leave, returnWith, returnOf, diedOut, terminateOf}
 use Rattle.rules.specs.declared.Call.{Call}

@@ -1,25 +1,26 @@
--- What an answer says: past question 21, a value only where accepted, what it tells by its kind, and the caller's timeout after it.
+-- What an answer says: past question 21, of 20 and 21 a value only where accepted, what it tells by its kind, and the caller's timeout after it.
 -- Assumes nothing.
 use mathlib.Core.Path.{_≡_, refl}
 use mathlib.Core.Bool.{Bool, true, false, not, _&&_, _||_}
 use Prim.Native.Nat.{ℕ}
 use lib.Dec.{eqb, leb}
-use lib.IntN.{ℤ, pos, negsuc}
+use lib.IntN.{ℤ, pos}
 use borrow.Author.Tests.{eqb-true, ne-eqb}
 use Rattle.rules.specs.Choice.{same}
 use Rattle.rules.specs.Transaction.{txOf}
 use Rattle.rules.specs.Step.{told}
-use Rattle.rules.specs.History.{ofKind, sameCode, answeredBy, withValue, withEvent, accepted, past21, linkOn, flag2, endsIn}
+use Rattle.rules.specs.History.{ofKind, sameCode, unheard, answeredBy, withValue, withEvent, accepted, past21, linkOn, flag2, endsIn}
 use Rattle.rules.specs.declared.Call.{Call}
 use Rattle.rules.specs.declared.Ruled.{Ruled}
 use Rattle.rules.proofs.Logic.{not-both, Nz, or-l, or-r, or-cases, and-false, and-l, and-r, not-true, cond-same}
-use Rattle.rules.proofs.History.Tells.{Tell, nothing, sent, given, made, taken, finished, disconnected, left, endingEvent, tellOf}
+use Rattle.rules.proofs.Codes.{of-code}
+use Rattle.rules.proofs.History.Tells.{Tell, nothing, sent, given, made, taken, finished, disconnected, left, endingEvent, tellOf, Valueless}
 use Rattle.rules.proofs.History.Moves.{isEnding}
 use Rattle.rules.proofs.History.Walk.Moved.{eventOf, timeAfter}
 
--- a code that is none of 19, 20 and 21
+-- a code past question 21
 abbrev pub isPast : ℤ → Bool
-isPast z = not (sameCode (pos 19) z || (sameCode (pos 20) z || sameCode (pos 21) z))
+isPast z = not (unheard z)
 
 -- a code that is none of 0, 29, 30 and 31: with it no kind tells anything
 abbrev pub isSilent : ℤ → Bool
@@ -31,7 +32,7 @@ isQuiet z = isSilent z && isPast z
 
 -- a kind that tells nothing, whatever its answer
 abbrev pub isPlain : ℕ → Bool
-isPlain k = leb k 11 || eqb k 16
+isPlain k = leb k 11 || (eqb k 16 || leb 22 k)
 
 -- a kind that sets the caller's timeout when accepted
 abbrev pub isTimed : ℕ → Bool
@@ -43,24 +44,29 @@ isFetched z = sameCode (pos 0) z || (sameCode (pos 30) z || sameCode (pos 31) z)
 
 pub record Says (c : Call) (r : Ruled) (t : Tell) : Type 0 where
   pub past : past21 (eventOf c r) ≡ true
-  pub valueless : accepted (eventOf c r) ≡ false → r .value ≡ 0
+  pub valueless : Valueless (eventOf c r)
   pub tells : tellOf (eventOf c r) ≡ t
 
 fetched-past : (z : ℤ) → isFetched z ≡ true → isPast z ≡ true
-fetched-past (pos n) h = or-cases (eqb 0 n) _ h (λ e. at 0 e refl) (λ i. or-cases (eqb 30 n) _ i (λ e. at 30 e refl) (λ e. at 31 e refl))
+fetched-past z h = or-cases (sameCode (pos 0) z) _ h (of-code Past (pos 0) z refl)
+    (λ i. or-cases (sameCode (pos 30) z) _ i (of-code Past (pos 30) z refl) (of-code Past (pos 31) z refl))
   where
-    at : (k : ℕ) → eqb k n ≡ true → isPast (pos k) ≡ true → isPast (pos n) ≡ true
-    at k e p = let q : k ≡ n = eqb-true k n e in rw q at p
-fetched-past (negsuc n) h = refl
+    Past : ℤ → Type 0
+    Past z = isPast z ≡ true
 
 module _ (c : Call) (r : Ruled) where
+  -- ---- the value: by the code, the value, and the kind
   pub says-accepted : {t : Tell} → r .code ≡ pos 0 → tellOf (eventOf c r) ≡ t → Says c r t
   unfolding eventOf told past21 accepted answeredBy
-  says-accepted z e = record { past = rw z; valueless = λ n. not-both (rw z) n; tells = e }
+  says-accepted z e = record { past = rw z; valueless = λ _ n. not-both (rw z) n; tells = e }
 
   pub says-valueless : {t : Tell} → r .value ≡ 0 → isPast (r .code) ≡ true → tellOf (eventOf c r) ≡ t → Says c r t
-  unfolding eventOf told past21 answeredBy
-  says-valueless v z e = record { past = z; valueless = λ _. v; tells = e }
+  unfolding eventOf told past21
+  says-valueless v z e = record { past = z; valueless = λ _ _. v; tells = e }
+
+  pub says-by-kind : {t : Tell} → eqb (c .kind) 20 || eqb (c .kind) 21 ≡ false → isPast (r .code) ≡ true → tellOf (eventOf c r) ≡ t → Says c r t
+  unfolding eventOf told past21 ofKind
+  says-by-kind k z e = record { past = z; valueless = λ y _. not-both y k; tells = e }
 
   -- ---- nothing: by the code, and by the kind
   tells-silent : isSilent (r .code) ≡ true → tellOf (eventOf c r) ≡ nothing
@@ -107,9 +113,9 @@ module _ (c : Call) (r : Ruled) where
   says-taken k z = says-accepted z (rw (k, z))
 
   -- ---- 15
-  pub says-fetched : c .kind ≡ 15 → r .value ≡ 0 → isFetched (r .code) ≡ true → Says c r (finished (c .a))
+  pub says-fetched : c .kind ≡ 15 → isFetched (r .code) ≡ true → Says c r (finished (c .a))
   unfolding tellOf ofKind eventOf told accepted answeredBy linkOn
-  says-fetched k v z = says-valueless v (fetched-past (r .code) z) (rw (k, z))
+  says-fetched k z = says-by-kind (rw k) (fetched-past (r .code) z) (rw (k, z))
 
   -- ---- 16
   pub says-cancelled : c .kind ≡ 16 → r .code ≡ pos 0 → Says c r nothing

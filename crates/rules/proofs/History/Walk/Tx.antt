@@ -5,16 +5,16 @@ use mathlib.Core.Bool.{Bool, true, false}
 use Prim.Native.Nat.{ℕ, suc, _+_, _<_}
 use native.Mathlib.Omega.{arith}
 use lib.Dec.{eqb, leb}
-use lib.IntN.{ℤ, pos, negsuc}
+use lib.IntN.{ℤ}
 use lib.ListN.{length-set}
 use lib.Seq.{set-set}
 use borrow.Author.Tests.{ltb-true}
 use Rattle.rules.specs.Choice.{same}
-use Rattle.rules.specs.Codes.{noBegin}
-use Rattle.rules.specs.Record.{party, live, withParty, ruled, valued}
-use Rattle.rules.specs.Transaction.{txOf, deadlineOf, owning, owningNone, txLeft, beginTx, endTx, canCommit}
+use Rattle.rules.specs.Codes.{txOk, txNotSupported, txInfoOutside, txInfoInside, txRollback, txProtocolError, txError, txEinval, noBegin}
+use Rattle.rules.specs.Record.{party, live, withParty, ruled, valued, withTimeout, owning, owningNone}
+use Rattle.rules.specs.Transaction.{txOf, deadlineOf, txLeft, beginTx, endTx, canCommit}
 use Rattle.rules.specs.States.{stateOf, nextOf, inState, entered}
-use Rattle.rules.specs.Tx.{withTimeout, openOf, closeOf, beginOf, goOn, commitCode, commitOf, rollbackOf, infoOf, commitReturnOf, controlOf, timeoutOf}
+use Rattle.rules.specs.Tx.{openOf, closeOf, beginOf, goOn, commitCode, commitOf, rollbackOf, infoOf, commitReturnOf, controlOf, timeoutOf}
 use Rattle.rules.specs.declared.Call.{Call}
 use Rattle.rules.specs.declared.Monitor.{Monitor}
 use Rattle.rules.specs.declared.Party.{Party}
@@ -23,17 +23,17 @@ use Rattle.rules.proofs.Fine.{look, Frame, Fine}
 use Rattle.rules.proofs.Looks.{txOf-txP}
 use Rattle.rules.proofs.Parties.{party-same, isOwner-owns, mark-good, owned-none}
 use Rattle.rules.proofs.History.Tells.{nothing, canStart}
-use Rattle.rules.proofs.History.Moves.{Begins, Move, ends, renews}
+use Rattle.rules.proofs.History.Moves.{Move, ends, renews}
 use Rattle.rules.proofs.History.Walk.Moved.{Own, Moved}
 use Rattle.rules.proofs.History.Walk.Says.{isPast, isPlain, isTimed, Says, says-valueless, tells-plain, time-kept, time-set, time-none}
-use Rattle.rules.proofs.History.Walk.Base.{ask-moved, pick-moved, refused, moved-still, OwnOnly, own-set, own-then, own-all, moved-own, moved-quiet}
+use Rattle.rules.proofs.History.Walk.Base.{BeginsTo, ask-moved, pick-moved, refused, moved-still, OwnOnly, own-set, own-then, own-all, moved-own, moved-quiet}
 use Rattle.rules.proofs.History.Walk.Ending.{end-own, end-frame, ends-to, end-ends, end-clock, end-lastlink, end-lasttx}
 use Rattle.rules.proofs.History.Walk.States.{state-is, state-free, state-low, next-open, next-close, next-begin, next-begun, next-control, in-good, in-opened, own-entered, frame-entered}
 
 -- ---- 1, 2, 8, 9: the caller's fields but its transaction
 module _ (m : Monitor) (c : Call) (f : Fine m) (b : c .party < 16) where
   -- it enters a state that is not S0
-  enters-moved : (k : ℕ) → c .kind ≡ k → isPlain k ≡ true → isTimed k ≡ false → (s : ℕ) → eqb s 0 ≡ false → Moved m c (ruled (entered m (c .party) s) (pos 0))
+  enters-moved : (k : ℕ) → c .kind ≡ k → isPlain k ≡ true → isTimed k ≡ false → (s : ℕ) → eqb s 0 ≡ false → Moved m c (ruled (entered m (c .party) s) txOk)
   unfolding entered inState
   enters-moved k e h i s n = moved-quiet m c 0 (inState (party m (c .party)) s) k f b e h (record {
     good = in-good (party m (c .party)) s;
@@ -47,13 +47,13 @@ module _ (m : Monitor) (c : Call) (f : Fine m) (b : c .party < 16) where
 
   pub open-moved : c .kind ≡ 1 → Moved m c (openOf m (c .party))
   unfolding openOf
-  open-moved e = ask-moved (λ _. enters-moved 1 e refl refl _ (next-open (stateOf m (c .party)))) (λ _. refused (negsuc 4) refl f)
+  open-moved e = ask-moved (λ _. enters-moved 1 e refl refl _ (next-open (stateOf m (c .party)))) (λ _. refused txProtocolError refl f)
 
   pub control-moved : c .kind ≡ 8 → Moved m c (controlOf m (c .party) (c .a))
   unfolding controlOf
   control-moved e = ask-moved (λ _. ask-moved
       (λ _. enters-moved 8 e refl refl _ (next-control (stateOf m (c .party)) (c .a)))
-      (λ _. refused (negsuc 7) refl f)) (λ _. refused (negsuc 4) refl f)
+      (λ _. refused txEinval refl f)) (λ _. refused txProtocolError refl f)
 
   pub timeout-moved : c .kind ≡ 9 → Moved m c (timeoutOf m (c .party) (c .a))
   unfolding timeoutOf
@@ -67,21 +67,21 @@ module _ (m : Monitor) (c : Call) (f : Fine m) (b : c .party < 16) where
         time′ = sym (time-set c (valued (withParty m (c .party) (withTimeout (party m (c .party)) (c .a))) 0) _ e refl);
         opened′ = λ o n. o n;
       }))
-      (λ _. refused (negsuc 7) refl f)) (λ _. refused (negsuc 4) refl f)
+      (λ _. refused txEinval refl f)) (λ _. refused txProtocolError refl f)
 
   -- ---- 6, 7: nothing changes
   pub info-moved : c .kind ≡ 6 → Moved m c (infoOf m (c .party))
   unfolding infoOf
-  info-moved e = ask-moved (λ _. pick-moved (λ _. moved-still 6 e refl refl (pos 0) refl f) (λ _. moved-still 6 e refl refl (pos 1) refl f)) (λ _. refused (negsuc 4) refl f)
+  info-moved e = ask-moved (λ _. pick-moved (λ _. moved-still 6 e refl refl txInfoOutside refl f) (λ _. moved-still 6 e refl refl txInfoInside refl f)) (λ _. refused txProtocolError refl f)
 
   pub commit-return-moved : c .kind ≡ 7 → Moved m c (commitReturnOf m (c .party) (c .a))
   unfolding commitReturnOf
   commit-return-moved e = ask-moved (λ _. ask-moved
-      (λ _. pick-moved (λ _. moved-still 7 e refl refl (pos 0) refl f) (λ _. moved-still 7 e refl refl (pos 1) refl f))
-      (λ _. refused (negsuc 7) refl f)) (λ _. refused (negsuc 4) refl f)
+      (λ _. pick-moved (λ _. moved-still 7 e refl refl txOk refl f) (λ _. moved-still 7 e refl refl txNotSupported refl f))
+      (λ _. refused txEinval refl f)) (λ _. refused txProtocolError refl f)
 
   -- ---- 2: in S0 to S2 an opened party owns nothing
-  closes-moved : c .kind ≡ 2 → (s : ℕ) → leb (stateOf m (c .party)) 2 ≡ true → Moved m c (ruled (withParty m (c .party) (withTimeout (inState (party m (c .party)) s) 0)) (pos 0))
+  closes-moved : c .kind ≡ 2 → (s : ℕ) → leb (stateOf m (c .party)) 2 ≡ true → Moved m c (ruled (withParty m (c .party) (withTimeout (inState (party m (c .party)) s) 0)) txOk)
   unfolding inState same
   closes-moved e s h = moved-quiet m c 0 (withTimeout (inState (party m (c .party)) s) 0) 2 f b e refl (record {
     good = in-good (party m (c .party)) s;
@@ -93,7 +93,8 @@ module _ (m : Monitor) (c : Call) (f : Fine m) (b : c .party < 16) where
     opened′ = λ o n. not-both {b = eqb (party m (c .party) .owned) 0} (rw (owned-none m (c .party) (state-low (state-is m (c .party)) h (o n)))) n;
   })
 
-  closed-is : (s : ℕ) → withParty (entered m (c .party) s) (c .party) (withTimeout (party (entered m (c .party) s) (c .party)) 0) ≡ withParty m (c .party) (withTimeout (inState (party m (c .party)) s) 0)
+  closed-is : (s : ℕ) → withParty (entered m (c .party) s) (c .party) (withTimeout (party (entered m (c .party) s) (c .party)) 0)
+      ≡ withParty m (c .party) (withTimeout (inState (party m (c .party)) s) 0)
   unfolding entered
   closed-is s = rw (party-same m (f .frame .shape) (c .party) b (inState (party m (c .party)) s), set-set)
 
@@ -101,7 +102,7 @@ module _ (m : Monitor) (c : Call) (f : Fine m) (b : c .party < 16) where
   unfolding closeOf
   close-moved e = ask-moved
       (λ h. rw (closed-is (nextOf 2 (stateOf m (c .party)))) (closes-moved e (nextOf 2 (stateOf m (c .party))) (next-close (stateOf m (c .party)) h)))
-      (λ _. refused (negsuc 4) refl f)
+      (λ _. refused txProtocolError refl f)
 
 -- ---- 3, 4, 5: a transaction begins
 -- party p's record as it begins one
@@ -127,7 +128,7 @@ module _ (m : Monitor) (fr : Frame m) (p : ℕ) (b : p < 16) where
   begun-own : txLeft m ≡ true → (s : ℕ) → OwnOnly m (entered (beginTx m p) p s) p (inState (begun m p) s)
   begun-own h s = own-entered s begin-own (begin-frame h) b
 
-  begun-begins : txLeft m ≡ true → (s t : ℕ) → t ≡ suc (m .lasttx) → Begins (λ q. party m q) (λ d. look d (live m)) (λ q. party (entered (beginTx m p) p s) q) (λ d. look d (live (entered (beginTx m p) p s))) p t
+  begun-begins : txLeft m ≡ true → (s t : ℕ) → t ≡ suc (m .lasttx) → BeginsTo m (entered (beginTx m p) p s) p t
   unfolding entered beginTx inState
   begun-begins h s t n = let o = begun-own h s in record {
     links′ = λ e. refl;
@@ -144,19 +145,19 @@ tx-says c k e h m code z = says-valueless c (ruled m code) refl z (tells-plain c
 
 module _ (m : Monitor) (c : Call) (f : Fine m) (b : c .party < 16) where
   -- ---- 3
-  begins-moved : c .kind ≡ 3 → (s : ℕ) → eqb s 0 ≡ false → txOf m (c .party) ≡ 0 → txLeft m ≡ true → Moved m c (ruled (entered (beginTx m (c .party)) (c .party) s) (pos 0))
+  begins-moved : c .kind ≡ 3 → (s : ℕ) → eqb s 0 ≡ false → txOf m (c .party) ≡ 0 → txLeft m ≡ true → Moved m c (ruled (entered (beginTx m (c .party)) (c .party) s) txOk)
   unfolding entered beginTx inState canStart
-  begins-moved e s n t h = let p = c .party in let y = inState (begun m p) s in let r = ruled (entered (beginTx m p) p s) (pos 0) in
+  begins-moved e s n t h = let p = c .party in let y = inState (begun m p) s in let r = ruled (entered (beginTx m p) p s) txOk in
       moved-own m c r y nothing (frame-entered p s b (begin-frame m (f .frame) p b h)) refl (begun-own m (f .frame) p b h s)
       (in-good (begun m p) s) (Own.begins (omega arith) refl) (sym (time-kept c r _ 3 e refl)) (λ _ _. in-opened (begun m p) s n)
-      (tx-says c 3 e refl _ (pos 0) refl)
+      (tx-says c 3 e refl _ txOk refl)
       (Move.begins refl (omega arith) (rw e) (sym (txOf-txP m (f .frame) p) ∙ t) (begun-begins m (f .frame) p b h s (suc (m .lasttx)) refl))
 
   pub begin-moved : c .kind ≡ 3 → Moved m c (beginOf m (c .party))
   unfolding beginOf
   begin-moved e = let s = stateOf m (c .party) in ask-moved (λ h. ask-moved
       (λ l. begins-moved e (nextOf 3 s) (next-begun s) (state-free (state-is m (c .party)) (next-begin s h)) l)
-      (λ _. refused (negsuc 5) refl f)) (λ _. refused (negsuc 4) refl f)
+      (λ _. refused txError refl f)) (λ _. refused txProtocolError refl f)
 
   -- ---- 4, 5: the owned transaction ends
   module _ (k : ℕ) (e : c .kind ≡ k) (plain : isPlain k ≡ true) (timeless : isTimed k ≡ false) (start : canStart c ≡ true) (has : Nz (party m (c .party) .owned)) where
@@ -201,20 +202,20 @@ module _ (m : Monitor) (c : Call) (f : Fine m) (b : c .party < 16) where
 
   commit-past : (can : Bool) → isPast (commitCode can) ≡ true
   unfolding commitCode
-  commit-past can = byTest (λ z. isPast z ≡ true) {x = pos 0} {y = negsuc 1} (λ _. refl) (λ _. refl)
+  commit-past can = byTest (λ z. isPast z ≡ true) {x = txOk} {y = txRollback} (λ _. refl) (λ _. refl)
 
   commit-past-no : (can : Bool) → isPast (noBegin (commitCode can)) ≡ true
   unfolding commitCode noBegin
-  commit-past-no can = byTest (λ z. isPast (noBegin z) ≡ true) {x = pos 0} {y = negsuc 1} (λ _. refl) (λ _. refl)
+  commit-past-no can = byTest (λ z. isPast (noBegin z) ≡ true) {x = txOk} {y = txRollback} (λ _. refl) (λ _. refl)
 
   pub commit-moved : c .kind ≡ 4 → Moved m c (commitOf m (c .party))
   unfolding commitOf canStart
   commit-moved e = ask-moved (λ _. ask-moved
       (λ o. goes-on 4 e refl refl (rw e) (isOwner-owns m (c .party) o) _ _ (commit-past (canCommit m (c .party))) (commit-past-no (canCommit m (c .party))))
-      (λ _. refused (negsuc 4) refl f)) (λ _. refused (negsuc 4) refl f)
+      (λ _. refused txProtocolError refl f)) (λ _. refused txProtocolError refl f)
 
   pub rollback-moved : c .kind ≡ 5 → Moved m c (rollbackOf m (c .party))
   unfolding rollbackOf canStart noBegin
   rollback-moved e = ask-moved (λ _. ask-moved
       (λ o. goes-on 5 e refl refl (rw e) (isOwner-owns m (c .party) o) _ _ refl refl)
-      (λ _. refused (negsuc 4) refl f)) (λ _. refused (negsuc 4) refl f)
+      (λ _. refused txProtocolError refl f)) (λ _. refused txProtocolError refl f)
