@@ -19,10 +19,8 @@ pub fn counts() {
     m.lastlink = 60000;
     m.count = 33;
     show(b"33 links", m);
-    m.count = 4294967328;
-    show(b"4294967328 links", m);
-    m.count = 18446744073709551615;
-    show(b"18446744073709551615 links", m);
+    m.count = 4294967295;
+    show(b"4294967295 links", m);
 }
 
 fn show_number(name: &[u8], number: u32) {
@@ -99,7 +97,7 @@ pub fn choices() {
     outcomes();
 }
 
-fn show_outcome(name: &[u8], state: u8, outcome: u8) {
+fn show_outcome(name: &[u8], state: u32, outcome: u32) {
     let mut l = returned();
     l.state = state;
     l.outcome = outcome;

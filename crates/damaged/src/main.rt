@@ -4,6 +4,7 @@ mod links;
 mod parties;
 mod records;
 mod show;
+mod stored;
 
 fn main() {
     links::counts();

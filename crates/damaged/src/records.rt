@@ -61,9 +61,23 @@ pub fn server() -> Party {
     q
 }
 
+// Nothing yet.
+fn fresh() -> Monitor {
+    let q = Party::fresh();
+    let l = Link::fresh();
+    Monitor {
+        clock: 0,
+        lastlink: 0,
+        lasttx: 0,
+        parties: [q; 16],
+        links: [l; 32],
+        count: 0,
+    }
+}
+
 // Three links, numbered 2, 4 and 5, of seven that there were.
 pub fn base() -> Monitor {
-    let mut m = Monitor::fresh();
+    let mut m = fresh();
     m.clock = 5;
     m.lastlink = 7;
     m.lasttx = 3;
@@ -102,7 +116,7 @@ pub fn full() -> Monitor {
 pub fn sound() {
     let b = base();
     show(b"sound, three links", b);
-    let f = Monitor::fresh();
+    let f = fresh();
     show(b"sound, fresh", f);
     let mut m = full();
     show(b"sound, 32 links", m);

@@ -1,7 +1,9 @@
 // What the monitor answers on a record, in a line.
 use super::alike::same;
 use super::records::base;
+use super::stored::stored;
 use libc::STDOUT_FILENO;
+use monitor::Store;
 use rules::Call;
 use rules::Monitor;
 
@@ -36,7 +38,7 @@ fn show_kept(kept: bool) {
 }
 
 // A single call of a kind.
-fn show_step(m: Monitor, kind: u32) {
+fn show_step(m: Store, kind: u32) {
     let call = Call {
         clock: 7,
         party: 0,
@@ -47,17 +49,17 @@ fn show_step(m: Monitor, kind: u32) {
     };
     let s = monitor::step(m, call);
     let r = s.answer;
-    let n = s.monitor;
+    let n = s.store;
     let kept = same(m, n);
     show_code(r.code);
     show_kept(kept);
 }
 
 // A list, and the first of its answer places, which hold 77 before.
-fn show_list(m: Monitor, calls: &[u32]) {
+fn show_list(m: Store, calls: &[u32]) {
     let mut answers = [77i64; 6];
     let ran = monitor::run_list(m, calls, &mut answers);
-    let n = ran.monitor;
+    let n = ran.store;
     let kept = same(m, n);
     show_code(ran.code);
     show_kept(kept);
@@ -65,13 +67,14 @@ fn show_list(m: Monitor, calls: &[u32]) {
     show_code(answers[0]);
 }
 
-pub fn show(name: &[u8], m: Monitor) {
+pub fn show(name: &[u8], record: Monitor) {
+    let m = stored(record);
     let calls = CALLS;
     write(name);
     write(b": step ");
     show_step(m, 6);
-    write(b", kind 22 ");
-    show_step(m, 22);
+    write(b", kind 4294967295 ");
+    show_step(m, 4294967295);
     write(b", list ");
     show_list(m, &calls);
     write(b", empty list ");
@@ -80,10 +83,11 @@ pub fn show(name: &[u8], m: Monitor) {
 }
 
 // A list that has too few answer places.
-fn show_short(name: &[u8], m: Monitor, calls: &[u32]) {
+fn show_short(name: &[u8], record: Monitor, calls: &[u32]) {
+    let m = stored(record);
     let mut answers = [77i64; 5];
     let ran = monitor::run_list(m, calls, &mut answers);
-    let n = ran.monitor;
+    let n = ran.store;
     let kept = same(m, n);
     write(name);
     show_code(ran.code);

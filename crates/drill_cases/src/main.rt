@@ -5,7 +5,7 @@ mod spent;
 ghost use mathlib.Core.Path.{_≡_};
 ghost use lib.ListN.{length};
 use libc::STDOUT_FILENO;
-use rules::Monitor;
+use monitor::Store;
 
 // The name of a case.
 fn name_of(case: usize) -> [u8; 7]
@@ -49,7 +49,7 @@ fn list_cases() {
 
 fn main() {
     list_cases();
-    let begun = spent::run_stored(Monitor::fresh(), b"spent-a", 1);
+    let begun = spent::run_stored(Store::fresh(), b"spent-a", 1);
     let linked = spent::run_stored(begun, b"spent-b", 1875);
     let all = spent::run_stored(linked, b"spent-c", 14531);
     spent::list_stored(all, b"spent-d");

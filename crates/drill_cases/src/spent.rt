@@ -3,7 +3,7 @@ ghost use Rattle.io.specs.Counts.{Counts};
 ghost use mathlib.Core.Path.{_≡_};
 ghost use lib.ListN.{length};
 use libc::STDOUT_FILENO;
-use rules::Monitor;
+use monitor::Store;
 
 // The start of a file, up to the buffer's length; nothing where it cannot be read.
 fn load(name: &[u8], buffer: &mut [u8]) -> usize
@@ -20,18 +20,12 @@ fn load(name: &[u8], buffer: &mut [u8]) -> usize
 }
 
 // The record after a piece that is run a number of times.
-fn run_times(
-    m: Monitor,
-    piece: &[u8],
-    answers: &mut [i64],
-    text: &mut [u8],
-    times: usize,
-) -> Monitor {
+fn run_times(m: Store, piece: &[u8], answers: &mut [i64], text: &mut [u8], times: usize) -> Store {
     let mut cur = m;
     let mut i = 0;
     while i < times {
         let ran = listing::list_piece(cur, piece, true, &mut *answers, &mut *text);
-        let after = ran.monitor;
+        let after = ran.store;
         cur = after;
         i += 1;
     }
@@ -39,13 +33,13 @@ fn run_times(
 }
 
 fn run_loaded(
-    m: Monitor,
+    m: Store,
     name: &[u8],
     times: usize,
     input: &mut [u8],
     answers: &mut [i64],
     text: &mut [u8],
-) -> Monitor {
+) -> Store {
     let n = load(name, &mut *input);
     run_times(m, &input[..n], &mut *answers, &mut *text, times)
 }
@@ -58,7 +52,7 @@ fn places() -> [i64; 240]
 }
 
 // The record after a stored file that is run a number of times.
-pub fn run_stored(m: Monitor, name: &[u8], times: usize) -> Monitor {
+pub fn run_stored(m: Store, name: &[u8], times: usize) -> Store {
     let mut input = io::buffer();
     let mut answers = places();
     let mut text = io::large_buffer();
@@ -66,19 +60,19 @@ pub fn run_stored(m: Monitor, name: &[u8], times: usize) -> Monitor {
 }
 
 // Writes what a piece lists.
-fn list_text(m: Monitor, piece: &[u8], answers: &mut [i64], text: &mut [u8]) {
+fn list_text(m: Store, piece: &[u8], answers: &mut [i64], text: &mut [u8]) {
     let ran = listing::list_piece(m, piece, true, &mut *answers, &mut *text);
     let written = ran.written;
     io::write_all(STDOUT_FILENO, &text[..written]);
 }
 
-fn list_loaded(m: Monitor, name: &[u8], input: &mut [u8], answers: &mut [i64], text: &mut [u8]) {
+fn list_loaded(m: Store, name: &[u8], input: &mut [u8], answers: &mut [i64], text: &mut [u8]) {
     let n = load(name, &mut *input);
     list_text(m, &input[..n], &mut *answers, &mut *text);
 }
 
 // Lists a short stored file from a record, after its name.
-pub fn list_stored(m: Monitor, name: &[u8]) {
+pub fn list_stored(m: Store, name: &[u8]) {
     io::write_all(STDOUT_FILENO, name);
     io::write_all(STDOUT_FILENO, b"\n");
     let mut input = io::buffer();

@@ -4,7 +4,7 @@ ghost use mathlib.Core.Path.{_≡_};
 ghost use Prim.Native.Nat.{_-_, _≤_};
 ghost use lib.ListN.{length, take, drop};
 use libc::STDOUT_FILENO;
-use rules::Monitor;
+use monitor::Store;
 
 // What waits in the input's buffer: how many bytes, whether the input ended there, and whether it could be read.
 struct Waiting {
@@ -68,7 +68,7 @@ fn keep_rest(buffer: &mut [u8], used: usize, count: usize) -> usize
 
 // Between two turns: the record, what waits, and whether to go on.
 struct State {
-    monitor: Monitor,
+    store: Store,
     count: usize,
     ended: bool,
     more: bool,
@@ -79,13 +79,13 @@ fn turn(fd: i32, s: State, input: &mut [u8], answers: &mut [i64], output: &mut [
     requires { ⌜ s .count ≤ length (now input) ⌝ }
     ensures { λ r. ⌜ r .count ≤ length (now (input .entry)) ⌝ }
 {
-    let before = s.monitor;
+    let before = s.store;
     let waiting = receive(fd, &mut *input, s.count, s.ended);
     let count = waiting.count;
     let ended = waiting.ended;
     if waiting.failed {
         return State {
-            monitor: before,
+            store: before,
             count: 0,
             ended,
             more: false,
@@ -95,13 +95,13 @@ fn turn(fd: i32, s: State, input: &mut [u8], answers: &mut [i64], output: &mut [
     let written = listed.written;
     let used = listed.used;
     let code = listed.code;
-    let after = listed.monitor;
+    let after = listed.store;
     let ok = io::write_all(STDOUT_FILENO, &output[..written]);
     let kept = keep_rest(&mut *input, used, count);
     let done = ended & (kept == 0);
     let more = ok & (code == 0) & !done;
     State {
-        monitor: after,
+        store: after,
         count: kept,
         ended,
         more,
@@ -124,7 +124,7 @@ pub fn list_all(fd: i32) {
     let mut text = io::large_buffer();
     let output: &mut [u8] = &mut text;
     let mut s = State {
-        monitor: Monitor::fresh(),
+        store: Store::fresh(),
         count: 0,
         ended: false,
         more: true,

@@ -1,35 +1,30 @@
 // A piece of a drill file, run and listed.
 ghost use mathlib.Core.Path.{_≡_};
+ghost use Rattle.monitor.specs.View.{view};
 ghost use Rattle.listing.specs.Piece.{shown, listedOf};
 use super::text::put_lines;
 use super::text::put_refusal;
+use monitor::Store;
 use monitor::run_piece;
-use rules::Monitor;
 
 // What a piece gives: the record after its calls, how many of its bytes those took, how many bytes of text they made, and the code that ended it:
 // 0 where it may go on, 16 where the text's buffer is too short, else the refusal.
 pub struct Listed {
-    pub monitor: Monitor,
+    pub store: Store,
     pub used: usize,
     pub written: usize,
     pub code: i64,
 }
 
 // Runs the whole calls of a piece, as many as there are answer places for, and lists their answers; `last` says that the file ends with the piece.
-pub fn list_piece(
-    m: Monitor,
-    input: &[u8],
-    last: bool,
-    answers: &mut [i64],
-    out: &mut [u8],
-) -> Listed
-    ensures { λ r. ⌜ shown (r .monitor) (r .used) (r .written) (r .code) (now (answers .exit)) (now (out .exit)) ≡ listedOf m (now (input .entry)) last (now (answers .entry)) (now (out .entry)) ⌝ }
+pub fn list_piece(m: Store, input: &[u8], last: bool, answers: &mut [i64], out: &mut [u8]) -> Listed
+    ensures { λ r. ⌜ shown (view (r .store .words)) (r .used) (r .written) (r .code) (now (answers .exit)) (now (out .exit)) ≡ listedOf (view (m .words)) (now (input .entry)) last (now (answers .entry)) (now (out .entry)) ⌝ }
 {
     let room = out.len();
     let most = answers.len() / 6;
     if room < 22 {
         return Listed {
-            monitor: m,
+            store: m,
             used: 0,
             written: 0,
             code: 16,
@@ -37,7 +32,7 @@ pub fn list_piece(
     }
     if (room - 22) / 132 < most {
         return Listed {
-            monitor: m,
+            store: m,
             used: 0,
             written: 0,
             code: 16,
@@ -48,9 +43,9 @@ pub fn list_piece(
     let code = ran.code;
     let at = put_lines(&mut *out, answers, calls);
     let written = put_refusal(&mut *out, at, code);
-    let after = ran.monitor;
+    let after = ran.store;
     Listed {
-        monitor: after,
+        store: after,
         used: ran.used,
         written,
         code,

@@ -2,12 +2,12 @@
 -- Assumes nothing.
 use Prim.Native.Nat.{ℕ, zero, suc, _+_, _-_, _*_, _/_, _^_, _≤_, _<_}
 use mathlib.Core.Path.{_≡_, refl, ap, sym, _∙_, subst}
-use mathlib.Core.Logic.{_⊎_, ⊎-elim}
-use mathlib.Core.Bool.{Bool, true, false}
+use mathlib.Core.Logic.{⊎-elim}
+use mathlib.Core.Bool.{Bool, true}
 use mathlib.Core.List.{List, [], _∷_, _++_, append-assoc, append-nil}
 use native.Mathlib.Numerals.{add-one}
 use native.Mathlib.Omega.{arith}
-use borrow.Author.Tests.{lt-ltb, le-ltb, le-leb, lt-leb, leb-true}
+use borrow.Author.Tests.{lt-ltb, le-ltb, le-leb, lt-leb}
 use lib.Dec.{leb}
 use native.Mathlib.Nat.{add-zero}
 use lib.IntN.{ℤ}
@@ -22,7 +22,7 @@ use Rattle.rules.specs.Step.{callOf}
 use Rattle.rules.specs.declared.Call.{Call}
 use Rattle.rules.specs.declared.Stepped.{Stepped}
 use Rattle.rules.specs.declared.Monitor.{Monitor}
-use Rattle.monitor.specs.File.{Numbers, numbers, stopped, ahead, onward, readNumbers, CallReading, called, nothing, broken, asCall, readCall, Calls, noCalls, withCall, further, callsFrom, codeAt, Passed, passed, afterCalls, fileCalls, pieceOf, fileOf}
+use Rattle.monitor.specs.File.{Numbers, numbers, stopped, ahead, onward, readNumbers, CallReading, called, nothing, broken, asCall, readCall, Calls, noCalls, withCall, further, callsFrom, codeAt, Passed, passed, afterCalls, fileCalls, pieceRun, pieceOf, fileOf}
 use Rattle.rules.proofs.Logic.{pick-true, pick-false, byTest}
 
 -- ---- numbers one after the other
@@ -213,7 +213,7 @@ pub record Runs (m : Monitor) (input : List ℕ) (all : Calls) (most : ℕ) (out
   pub few : n ≤ most
   pub room : most * 6 ≤ length out₀
   pub short : length out₀ < 2 ^ 63
-  pub small : cur .count ≤ 32
+  pub fine : sound cur ≡ true
   pub within : at ≤ length input
   pub long : length out ≡ length out₀
   pub kept : drop (n * 6) out ≡ drop (n * 6) out₀
@@ -222,7 +222,7 @@ pub record Runs (m : Monitor) (input : List ℕ) (all : Calls) (most : ℕ) (out
   pub ran : ranOf (all .count) m (all .numbers) ≡ ranOf (callsFrom (most - n) input at .count) cur (callsFrom (most - n) input at .numbers)
   pub said : answersOf (all .count) m (all .numbers) ≡ take (n * 6) out ++ answersOf (callsFrom (most - n) input at .count) cur (callsFrom (most - n) input at .numbers)
 
-pub runs-none : (m : Monitor) (input : List ℕ) (out : List ℤ) → length out < 2 ^ 63 → m .count ≤ 32
+pub runs-none : (m : Monitor) (input : List ℕ) (out : List ℤ) → length out < 2 ^ 63 → sound m ≡ true
     → Runs m input (callsFrom (length out / 6) input 0) (length out / 6) out out m 0 0
 runs-none m input out bound h =
     let none = less-none (length out / 6) in
@@ -230,7 +230,7 @@ runs-none m input out bound h =
       few = omega arith;
       room = omega arith;
       short = bound;
-      small = h;
+      fine = h;
       within = omega arith;
       long = refl;
       kept = refl;
@@ -249,7 +249,7 @@ module _ {m : Monitor} {input : List ℕ} {all : Calls} {most : ℕ} {out₀ out
     unfolding rest
     first = let left : most - n ≡ suc (most - (n + 1)) = omega arith in ap (λ (f : ℕ). callsFrom f input at) left ∙ calls-one (most - (n + 1)) input at c next e
 
-    pub runs-one : (s : Stepped) → s ≡ callOf cur c → s .monitor .count ≤ 32
+    pub runs-one : (s : Stepped) → s ≡ callOf cur c → sound (s .monitor) ≡ true
         → (after : List ℤ) → after ≡ take (n * 6) out ++ placesOf (s .answer) ++ drop (n * 6 + 6) out
         → Runs m input all most out₀ after (s .monitor) next (n + 1)
     unfolding rest withCall ranOf answersOf callAt placesOf
@@ -264,7 +264,7 @@ module _ {m : Monitor} {input : List ℕ} {all : Calls} {most : ℕ} {out₀ out
           few = omega arith;
           room = k .room;
           short = k .short;
-          small = fits;
+          fine = fits;
           within = call-within input at c next e;
           long =
               ap length put
@@ -325,14 +325,10 @@ module _ {m : Monitor} {input : List ℕ} {all : Calls} {most : ℕ} {out₀ out
       none : most - n ≡ 0
       none = omega arith
 
--- a sound record has at most 32 links
-pub sound-small : (m : Monitor) → sound m ≡ true → m .count ≤ 32
-unfolding sound
-sound-small m e = go (leb (m .count) 32) refl
-  where
-    go : (b : Bool) → leb (m .count) 32 ≡ b → m .count ≤ 32
-    go true f = leb-true _ _ f
-    go false f = let g = pick-false (leb (m .count) 32) _ false f in let z : true ≡ false = sym e ∙ g in let y : _≡_ {A = ℕ} 0 1 = cc in absurd (omega arith)
+-- "Is the record sound?"
+pub piece-sound : (m : Monitor) (input : List ℕ) (last : Bool) (out : List ℤ) → sound m ≡ true → (p : Passed) → p ≡ pieceRun m input last out → p ≡ pieceOf m input last out
+unfolding pieceOf
+piece-sound m input last out h p e = e ∙ sym (pick-true (sound m) _ _ h)
 
 -- "Has the answer list six places a call?", where the calls have been counted
 module _ (m : Monitor) (input : List ℕ) (out : List ℤ) (whole : ℕ) (e : whole ≡ fileCalls input .count) where
@@ -340,9 +336,9 @@ module _ (m : Monitor) (input : List ℕ) (out : List ℤ) (whole : ℕ) (e : wh
   unfolding fileOf
   file-little h = sym (pick-false (leb (fileCalls input .count) (length out / 6)) _ _ (lt-leb _ _ (subst (λ (k : ℕ). length out / 6 < k) e h)))
 
-  pub file-enough : whole ≤ length out / 6 → pieceOf m input true out ≡ fileOf m input out
+  pub file-enough : whole ≤ length out / 6 → (p : Passed) → p ≡ pieceOf m input true out → p ≡ fileOf m input out
   unfolding fileOf
-  file-enough h = sym (pick-true (leb (fileCalls input .count) (length out / 6)) _ _ (le-leb _ _ (subst (λ (k : ℕ). k ≤ length out / 6) e h)))
+  file-enough h p f = f ∙ sym (pick-true (leb (fileCalls input .count) (length out / 6)) _ _ (le-leb _ _ (subst (λ (k : ℕ). k ≤ length out / 6) e h)))
 
 -- no more calls than asked for
 further-few : (most : ℕ) (after : ℕ → Calls) (place : ℕ) → ((next : ℕ) → after next .count ≤ most) → (r : CallReading) → further r after place .count ≤ suc most

@@ -1,68 +1,58 @@
--- A new link: what opening it gives, with its flags' choices put in, and the questions before it.
+-- The questions before a new link, by the number of the first "no", which is 0 where there is none.
 -- Assumes nothing.
-use Prim.Native.Nat.{ℕ, _+_, _≤_, _<_}
-use mathlib.Core.Path.{_≡_, ap, sym, _∙_}
-use mathlib.Core.Bool.{Bool, true, false, not, _&&_}
-use borrow.Author.Tests.{leb-true, le-ltb, lt-ltb}
-use lib.Dec.{eqb, ltb, leb}
+use Prim.Native.Nat.{ℕ, suc, _<_}
+use mathlib.Core.Path.{_≡_, refl, ap, sym, _∙_}
+use mathlib.Core.Bool.{Bool, true, false, not}
+use native.Mathlib.Omega.{arith}
+use borrow.Author.Tests.{ltb-true}
+use lib.Dec.{ltb}
+use lib.IntN.{ℤ, pos}
+use mir.Syntax.{w64}
+use mir.Val.{toZ, ofZ}
 use Rattle.rules.specs.Choice.{pick}
-use Rattle.rules.specs.Codes.{notAllowedNow, notOffered, noRoomLeft, timedOut}
 use Rattle.rules.specs.Lists.{anyOf}
-use Rattle.rules.specs.Record.{added, ruled, valued, ask}
-use Rattle.rules.specs.Requests.{askLink, linkLeft, newLink}
-use Rattle.rules.specs.Services.{isService, offers}
+use Rattle.rules.specs.Record.{ruled, valued, ask}
+use Rattle.rules.specs.Requests.{askLink, linkLeft}
+use Rattle.rules.specs.Services.{offers}
 use Rattle.rules.specs.Transaction.{ended, expired}
-use Rattle.rules.specs.declared.Link.{Link}
 use Rattle.rules.specs.declared.Monitor.{Monitor}
 use Rattle.rules.specs.declared.Ruled.{Ruled}
-use Rattle.rules.proofs.Logic.{pick-true, pick-false, and-l, and-r}
-use Rattle.monitor.specs.Numbered.{withNumber}
+use Rattle.rules.proofs.Logic.{pick-true, and-l, and-r}
+use Rattle.monitor.specs.declared.Told.{Told}
+use Rattle.monitor.specs.View.{ruledBy, toldCode}
+use Rattle.monitor.proofs.Telling.{code-told}
 
--- what opening the link l gives
-abbrev pub opened : Monitor → Link → Ruled
-opened m l = askLink m (l .tx) (l .service) (valued (added m (withNumber l (m .lastlink + 1))) (pick (eqb (l .attached) 0) 0 (m .lastlink + 1)))
+-- one question: a "yes" leaves those after it, and a "no" whatever is after it
+passes : (m : Monitor) (q : Bool) (n : ℕ) (x : Ruled) → ask m q (pos (suc n)) x .code ≡ pos 0 → (q ≡ true) × (x .code ≡ pos 0)
+unfolding pick
+passes m true n x e = (refl, e)
+passes m false n x e = absurd (let z : _≡_ {A = ℕ} 0 1 = cc in omega arith)
 
--- the questions before the last, one law an outcome, and what they leave
-module _ (m : Monitor) (t a : ℕ) (rest : Ruled) where
-  pub asked-ended : ended m t ≡ true → askLink m t a rest ≡ ruled m notAllowedNow
+stops : (m : Monitor) (q : Bool) (n : ℕ) (x y : Ruled) → ((x .code ≡ pos 0 → ⊥) → y ≡ ruled m (x .code))
+    → (ask m q (pos (suc n)) x .code ≡ pos 0 → ⊥) → ask m q (pos (suc n)) y ≡ ruled m (ask m q (pos (suc n)) x .code)
+unfolding pick
+stops m true n x y k h = k h
+stops m false n x y k h = refl
+
+-- all of them: the code, of 64 bits, with which a link of the transaction t to service a is answered
+abbrev pub Asked : Monitor → ℕ → ℕ → ℤ → Type 0
+Asked m t a code = (code ≡ askLink m t a (valued m 0) .code) × (toZ w64 (ofZ w64 code) ≡ code)
+
+pub asked : (m : Monitor) (a : ℕ) {t u : ℕ} {code : ℤ} → code ≡ askLink m t a (valued m 0) .code → t ≡ u → toZ w64 (ofZ w64 code) ≡ code → Asked m u a code
+asked m a e f z = (e ∙ ap (λ (t : ℕ). askLink m t a (valued m 0) .code) f, z)
+
+module _ (m : Monitor) (t a : ℕ) {code : ℤ} (e : Asked m t a code) where
+  pub all-pass : ofZ w64 code ≡ 0 → (m .count < 32) × (m .lastlink < 60000) × ((rest : Ruled) → askLink m t a rest ≡ rest)
   unfolding askLink
-  asked-ended e = pick-false _ _ _ (ap not e)
+  all-pass h =
+      let e1 = passes m (not (ended m t)) 22 _ (sym (e .0) ∙ sym (e .1) ∙ ap (toZ w64) h) in
+      let e2 = passes m (not (expired m t)) 27 _ (e1 .1) in
+      let e3 = passes m (anyOf (offers a) (m .parties)) 24 _ (e2 .1) in
+      let e4 = passes m (linkLeft m) 25 _ (e3 .1) in
+      (ltb-true _ _ (and-l (ltb (m .count) 32) _ (e4 .0)), ltb-true _ _ (and-r (ltb (m .count) 32) _ (e4 .0)), λ rest. pick-true _ _ _ (e1 .0) ∙ pick-true _ _ _ (e2 .0) ∙ pick-true _ _ _ (e3 .0) ∙ pick-true _ _ _ (e4 .0))
 
-  module _ (e : ended m t ≡ false) where
-    pub asked-late : expired m t ≡ true → askLink m t a rest ≡ ruled m timedOut
-    unfolding askLink
-    asked-late f = pick-true _ _ _ (ap not e) ∙ pick-false _ _ _ (ap not f)
-
-    module _ (f : expired m t ≡ false) where
-      pub asked-none : anyOf (offers a) (m .parties) ≡ false → askLink m t a rest ≡ ruled m notOffered
-      unfolding askLink
-      asked-none g = pick-true _ _ _ (ap not e) ∙ pick-true _ _ _ (ap not f) ∙ pick-false _ _ _ g
-
-      pub asked-room : anyOf (offers a) (m .parties) ≡ true → askLink m t a rest ≡ ask m (linkLeft m) noRoomLeft rest
-      unfolding askLink
-      asked-room g = pick-true _ _ _ (ap not e) ∙ pick-true _ _ _ (ap not f) ∙ pick-true _ _ _ g
-
--- the last question
-module _ (m : Monitor) where
-  pub all-taken : 32 ≤ m .count → linkLeft m ≡ false
-  all-taken h = ap (λ (b : Bool). b && ltb (m .lastlink) 60000) (le-ltb _ _ h)
-
-  module _ (h : m .count < 32) where
-    last-number : linkLeft m ≡ ltb (m .lastlink) 60000
-    last-number = ap (λ (b : Bool). b && ltb (m .lastlink) 60000) (lt-ltb _ _ h)
-
-    pub all-numbered : 60000 ≤ m .lastlink → linkLeft m ≡ false
-    all-numbered k = last-number ∙ le-ltb _ _ k
-
-    pub some-left : m .lastlink < 60000 → linkLeft m ≡ true
-    some-left k = last-number ∙ lt-ltb _ _ k
-
--- a new link, with the transaction t, the end x and the sender s as the flags have them, and the value v
-pub opens : (m : Monitor) (kind p a c : ℕ) {r : Ruled} {l : Link} {t x s t′ x′ s′ v : ℕ} → r ≡ opened m l → l ≡ newLink 0 kind p x a t c s → t ≡ t′ → x ≡ x′ → s ≡ s′
-    → pick (eqb x 0) 0 (m .lastlink + 1) ≡ v → r ≡ askLink m t′ a (valued (added m (newLink (m .lastlink + 1) kind p x′ a t′ c s′)) v)
-opens m kind p a c e f t x s v =
-    e ∙ ap (opened m) f ∙ (λ i. askLink m (t i) a (valued (added m (newLink (m .lastlink + 1) kind p (x i) a (t i) c (s i))) (v i)))
-
--- a service passes the first question: its number is small
-pub small-service : (a : ℕ) {s : Bool} (flags : Bool) → s ≡ isService a → s && flags ≡ true → a ≤ 64
-small-service a flags e h = leb-true _ _ (and-r (leb 1 a) _ (sym e ∙ and-l _ flags h))
+  pub one-stops : {r : Told} → (ofZ w64 code ≡ 0 → ⊥) → r ≡ toldCode (toZ w64 (ofZ w64 code)) → (rest : Ruled) → ruledBy r m ≡ askLink m t a rest
+  unfolding askLink
+  one-stops h r rest =
+      let k = stops m (not (ended m t)) 22 _ _ (stops m (not (expired m t)) 27 _ _ (stops m (anyOf (offers a) (m .parties)) 24 _ _ (stops m (linkLeft m) 25 _ rest (λ n. absurd (n refl))))) in
+      code-told m r ∙ ap (ruled m) (e .1 ∙ e .0) ∙ sym (k (λ n. h (ap (ofZ w64) (e .0 ∙ n))))

@@ -1,18 +1,22 @@
--- A turn of the loop over a list of calls.
+-- A turn of the loop over a list of calls, and the whole list.
 -- Assumes nothing.
-use Prim.Native.Nat.{ℕ, suc, _+_, _-_, _*_, _≤_, _<_}
+use Prim.Native.Nat.{ℕ, suc, _+_, _-_, _*_, _%_, _≤_, _<_}
 use mathlib.Core.Path.{_≡_, ap, sym, _∙_}
+use mathlib.Core.Bool.{true}
 use mathlib.Core.List.{List, [], _++_, append-assoc}
 use native.Mathlib.Nat.{add-zero}
 use native.Mathlib.Omega.{arith}
+use borrow.Author.Tests.{eq-eqb, le-leb}
 use lib.ListN.{length, take, drop, getD, length-append, length-drop}
 use lib.Seq.{getD-drop, drop-drop, take-at, drop-at, length-take-le}
-use lib.IntN.{ℤ}
+use lib.IntN.{ℤ, pos}
 use Rattle.rules.specs.declared.Monitor.{Monitor}
 use Rattle.rules.specs.declared.Stepped.{Stepped}
+use Rattle.rules.specs.Sound.{sound}
 use Rattle.rules.specs.Step.{callOf}
 use Rattle.rules.specs.declared.Call.{Call}
-use Rattle.rules.specs.Run.{callAt, placesOf, ranOf, answersOf}
+use Rattle.rules.specs.Run.{callAt, placesOf, ranOf, answersOf, callsIn, listed, listOf}
+use Rattle.rules.proofs.Logic.{pick-true}
 
 -- one call more: the step at the front, and the rest
 answers-more : (k : ℕ) (m : Monitor) (cs : List ℕ) (s : Stepped) → s ≡ callOf m (callAt cs) → answersOf (suc k) m cs ≡ placesOf (s .answer) ++ answersOf k (s .monitor) (drop 6 cs)
@@ -86,3 +90,10 @@ module _ (n i : ℕ) (h : i < n) (calls : List ℕ) (cur m₀ : Monitor) (s : St
         ∙ drop-at (take (i * 6) out ++ placesOf (s .answer)) (drop (i * 6 + 6) out) ((i + 1) * 6) head-length
         ∙ sym (drop-drop 6 (i * 6) out) ∙ ap (drop 6) v ∙ drop-drop 6 (i * 6) out₀
         ∙ ap (λ (k : ℕ). drop k out₀) (sym next)
+
+-- a list that is neither cut short nor short of room, on a sound record
+pub list-ran : (m : Monitor) (cs : List ℕ) (out : List ℤ) → length cs % 6 ≡ 0 → length cs ≤ length out → sound m ≡ true
+    → (m′ : Monitor) (out′ : List ℤ) → m′ ≡ ranOf (callsIn cs) m cs → out′ ≡ answersOf (callsIn cs) m cs ++ drop (callsIn cs * 6) out → listed (pos 0) m′ out′ ≡ listOf m cs out
+unfolding listOf
+list-ran m cs out six room fine m′ out′ e f =
+    (λ i. listed (pos 0) (e i) (f i)) ∙ sym (pick-true _ _ _ (eq-eqb _ _ six) ∙ pick-true _ _ _ (le-leb _ _ room) ∙ pick-true _ _ _ fine)

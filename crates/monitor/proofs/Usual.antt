@@ -23,20 +23,17 @@ unfoldable pub use Rattle.rules.specs.Choice.{pick, same}
 unfoldable pub use Rattle.rules.specs.Lists.{firstOf, anyOf, collect}
 pub use Rattle.rules.specs.Codes.{txOk, unknownKind, noSuchEnd, noRoomLeft, inTransaction, timedOut, noReplyYet}
 unfoldable pub use Rattle.rules.specs.Codes.{noBegin}
-pub use Rattle.rules.specs.Record.{freshParty, freshLink, isOpened, isRollbackOnly, isRequest, isAttached, isWaiting, isReturned, isServerFree, party, live, withClock, withParties, withParty, replaced, added, closed, cutOff, ruled, valued, ask}
+pub use Rattle.rules.specs.Record.{freshParty, freshLink, isOpened, isRollbackOnly, isRequest, isAttached, isWaiting, isReturned, isServerFree, party, live, withSettings, withUnread, withContents, withTimeout, owningNone, rollbackOnly, closed, cutOff, returned, withoutOldest, withClock, withLastLink, withLastTx, withParties, withParty, withLinks, withCount, replaced, added, ruled, valued, ask}
 unfoldable pub use Rattle.rules.specs.Record.{blanks, numbered, owns, ownEnd, linkOf, changed, goneOf, removed}
-pub use Rattle.rules.specs.Transaction.{late, rollbackOnly, doom, owningNone}
+pub use Rattle.rules.specs.Transaction.{late, doom}
 unfoldable pub use Rattle.rules.specs.Transaction.{servedTx, txOf, ended, expired, isOwner, doomedIn, deadlineOf, beginTx, orphaned, endOf, endTx, isOpenOf, canCommit}
 unfoldable pub use Rattle.rules.specs.States.{stateOf, nextOf, inState, entered}
-pub use Rattle.rules.specs.Tx.{withTimeout}
 unfoldable pub use Rattle.rules.specs.Tx.{openOf, closeOf, beginOf, goOn, commitCode, commitOf, rollbackOf, infoOf, commitReturnOf, controlOf, timeoutOf}
 pub use Rattle.rules.specs.Services.{isService}
-unfoldable pub use Rattle.rules.specs.Services.{offers, withService, offersNow, advertiseOf, unadvertiseOf}
-pub use Rattle.rules.specs.Requests.{connectFlags, linkLeft}
+unfoldable pub use Rattle.rules.specs.Services.{inSet, offers, withService, offersNow, advertiseOf, unadvertiseOf}
+pub use Rattle.rules.specs.Requests.{connectFlags}
 unfoldable pub use Rattle.rules.specs.Requests.{linkTx, askLink, requestOf, connectOf, isIdle, fits, dispatchEvent, dispatched, dispatchOf, requestEnd, outcomeCode, fetched, fetchOf, cancelled, cancelOf}
-pub use Rattle.rules.specs.Conversations.{withoutOldest}
 unfoldable pub use Rattle.rules.specs.Conversations.{originatorEnd, serverEnd, anyEnd, hearsCut, hearsReturn, endSide, holds, tellsCut, tellsReturn, sendOn, sendOf, carriesGrant, received, receiveOn, receiveOf, hungUp, disconnectOf}
-pub use Rattle.rules.specs.Return.{returned}
 unfoldable pub use Rattle.rules.specs.Return.{plainOutcome, outcomeOf, unreadAfter, closeEnd, doomedBy, closeOwn, endOwn, doomServed, servesNone, endingOf, handBack, leave, returnWith, returnOf, diedOut, terminateOf}
 pub use Rattle.rules.specs.Sound.{linkGood}
 unfoldable pub use Rattle.rules.specs.Sound.{linksGood, worksFor, partyGood, partiesGood, sound}
@@ -45,8 +42,10 @@ unfoldable pub use Rattle.rules.specs.Step.{ruleOf, laterOf, told, turnedDown, 
 pub use Rattle.rules.specs.Run.{listed}
 unfoldable pub use Rattle.rules.specs.Run.{placesOf, ranOf, answersOf, listOf}
 unfoldable pub use Rattle.rules.specs.Equal.{sameParty, sameLink, allSame, sameRecord, equal}
-pub use Rattle.monitor.specs.Numbered.{withNumber}
+pub use Rattle.monitor.specs.declared.Told.{Told}
+pub use Rattle.monitor.specs.Words.{words}
+pub use Rattle.monitor.specs.View.{view, linkIn, liveAt, changedAt, ruledBy, toldCode, toldValue, stepped, codeAnswer}
+unfoldable pub use Rattle.monitor.specs.View.{linkAt, partyAt, ofTx}
 pub use Rattle.rules.proofs.Logic.{pick-true, pick-false, same-eq, same-ne}
 pub use Rattle.monitor.proofs.Lists.{live-at, live-past, rest-cons, first-hit, first-more, first-none, any-here, any-later, any-none, any-first}
-pub use Rattle.monitor.proofs.Room.{noLink, links-long, parties-long, next-live, end-live, Gathers, gather-none, gather-one, gather-skip, gathered}
-pub use Rattle.monitor.proofs.Keeps.{HasRoom, doom-served-room, serves-none-room, rule-room, sound-room}
+pub use Rattle.monitor.proofs.Laws.{links-long, parties-long, link-law, party-law, next-live, end-live, live-long, live-in, next-party, end-party, live-of, changed-of, there, nowhere, replaced-of, count-kept, sound-room}

@@ -1,15 +1,15 @@
 -- The drill file: what call stands at a place of its bytes, which whole calls it has, what running it gives, and the bytes of a list of calls.
 -- Assumes nothing.
 use Prim.Native.Nat.{ℕ, zero, suc, _+_, _*_, _/_, _%_}
-use mathlib.Core.Bool.{Bool, true, false}
+use mathlib.Core.Bool.{Bool, true}
 use mathlib.Core.List.{List, [], _∷_, _++_}
 use lib.Dec.{eqb, ltb, leb}
 use lib.IntN.{ℤ, pos}
-use lib.ListN.{getD, take, drop, length}
+use lib.ListN.{take, drop, length}
 use Rattle.number.specs.Reader.{Reading, number, refused, readNumber}
 use Rattle.number.specs.Writer.{numberBytes}
 use Rattle.rules.specs.Choice.{pick}
-use Rattle.rules.specs.Codes.{tooLittleRoom, cutShort, unsound}
+use Rattle.rules.specs.Codes.{tooLittleRoom, unsound}
 use Rattle.rules.specs.Sound.{sound}
 use Rattle.rules.specs.Run.{callAt, ranOf, answersOf}
 use Rattle.rules.specs.declared.Call.{Call}

@@ -1,2 +1,5 @@
-pub mod Numbered
+pub mod Words
+pub mod View
+pub mod Served
 pub mod File
+pub mod Pieces

@@ -1,20 +1,25 @@
 // Kinds 17 to 19: send, receive and disconnect on a conversation.
 ghost use mathlib.Core.Path.{_≡_};
-ghost use Prim.Native.Nat.{ℕ, _+_, _<_, _≤_};
-ghost use lib.IntN.{ℤ, pos};
-ghost use Rattle.rules.specs.Conversations.{originatorEnd, serverEnd, anyEnd, hearsCut, hearsReturn, endSide, holds, notified, tellsCut, tellsReturn, withSent, sendOn, sendOf, carriesGrant, withoutOldest, received, receiveOn, receiveOf, hungUp, disconnectOf};
+ghost use Prim.Native.Nat.{_+_, _<_, _≤_};
+ghost use lib.ListN.{length};
+ghost use Rattle.rules.specs.Record.{placeOf, notified, withSent, withoutOldest};
+ghost use Rattle.rules.specs.Conversations.{originatorEnd, serverEnd, anyEnd, hearsCut, hearsReturn, endSide, holds, tellsCut, tellsReturn, sendOn, sendOf, carriesGrant, received, receiveOn, receiveOf, hungUp, disconnectOf};
+ghost use Rattle.monitor.specs.Words.{words};
+ghost use Rattle.monitor.specs.View.{view, ruledBy};
+use super::Told;
 use super::links::accept;
-use super::links::change;
 use super::links::coded;
 use super::links::cut_off;
 use super::links::is_own_end;
-use super::links::link_of;
-use super::links::remove;
+use super::links::place_of;
+use super::links::remove_at;
 use super::transaction::doom_tx;
 use super::transaction::is_expired;
+use super::words::WORDS;
+use super::words::count;
+use super::words::link_at;
+use super::words::put_link;
 use rules::Link;
-use rules::Monitor;
-use rules::Ruled;
 
 // Is it an open conversation end of party p's, as its originator?
 pub(crate) fn is_originator_end(p: usize, l: Link) -> bool
@@ -54,7 +59,7 @@ pub(crate) fn hears_return(p: usize, l: Link) -> bool
 }
 
 // Party p's end: 0 the originator's, 1 the server's.
-pub(crate) fn end_side(p: usize, l: Link) -> u8
+pub(crate) fn end_side(p: usize, l: Link) -> u32
     ensures { λ r. ⌜ r ≡ endSide p l ⌝ }
 {
     let originates = is_originator_end(p, l);
@@ -79,15 +84,14 @@ pub(crate) fn notify(l: Link) -> Link
     k
 }
 
-// The server learns that the link was cut.
-pub(crate) fn tell_cut(m: Monitor, a: u32, l: Link) -> Ruled
-    requires { ⌜ m .count ≤ 32 ⌝ }
-    ensures { λ r. ⌜ r ≡ tellsCut m a l ⌝ }
+// The server learns that the link a, which stands at the place i, was cut.
+pub(crate) fn tell_cut(s: &mut [u32; WORDS], i: usize, a: u32, l: Link) -> Told
+    requires { ⌜ (view (now s) .count ≤ 32) × (length (now s) ≡ words) × (i ≡ placeOf (view (now s)) a) × (i < view (now s) .count) ⌝ }
+    ensures { λ r. ⌜ (ruledBy r (view (now (s .exit))) ≡ tellsCut (view (now (s .entry))) a l) × (length (now (s .exit)) ≡ words) ⌝ }
 {
     let k = notify(l);
-    let n = change(m, a, k);
-    Ruled {
-        monitor: n,
+    put_link(&mut *s, i, k);
+    Told {
         code: 29,
         value: 0,
         event: 1,
@@ -96,17 +100,16 @@ pub(crate) fn tell_cut(m: Monitor, a: u32, l: Link) -> Ruled
     }
 }
 
-// The originator learns how the service returned, and the link goes.
-pub(crate) fn tell_return(m: Monitor, a: u32, l: Link) -> Ruled
-    requires { ⌜ m .count ≤ 32 ⌝ }
-    ensures { λ r. ⌜ r ≡ tellsReturn m a l ⌝ }
+// The originator learns how the service returned, and the link a, which stands at the place i, goes.
+pub(crate) fn tell_return(s: &mut [u32; WORDS], i: usize, a: u32, l: Link) -> Told
+    requires { ⌜ (view (now s) .count ≤ 32) × (length (now s) ≡ words) × (i ≡ placeOf (view (now s)) a) ⌝ }
+    ensures { λ r. ⌜ (ruledBy r (view (now (s .exit))) ≡ tellsReturn (view (now (s .entry))) a l) × (length (now (s .exit)) ≡ words) ⌝ }
 {
-    let n = remove(m, a);
-    Ruled {
-        monitor: n,
+    remove_at(&mut *s, i, a);
+    Told {
         code: 29,
         value: 0,
-        event: l.outcome as u32,
+        event: l.outcome,
         token: l.ending,
         service: 0,
     }
@@ -119,57 +122,70 @@ pub(crate) fn with_sent(l: Link, b: u32, c: u32) -> Link
 {
     let i = l.filled as usize;
     let mut k = l;
-    k.granting = b as u8;
+    k.granting = b;
     k.unread[i] = c;
     k.filled = l.filled + 1;
     k
 }
 
-// Kind 17, on the link l.
-pub(crate) fn send_on(m: Monitor, p: usize, a: u32, b: u32, c: u32, l: Link) -> Ruled
-    requires { ⌜ m .count ≤ 32 ⌝ }
-    ensures { λ r. ⌜ r ≡ sendOn m p a b c l ⌝ }
+// Kind 17, on the link l with the number a, which stands at the place i.
+pub(crate) fn send_on(
+    s: &mut [u32; WORDS],
+    p: usize,
+    i: usize,
+    a: u32,
+    b: u32,
+    c: u32,
+    l: Link,
+) -> Told
+    requires { ⌜ (view (now s) .count ≤ 32) × (length (now s) ≡ words) × (i ≡ placeOf (view (now s)) a) × (i < view (now s) .count) ⌝ }
+    ensures { λ r. ⌜ (ruledBy r (view (now (s .exit))) ≡ sendOn (view (now (s .entry))) p a b c l) × (length (now (s .exit)) ≡ words) ⌝ }
 {
     let known = is_any_end(p, l);
     if !known {
-        return coded(m, 24);
+        return coded(24);
     }
     if b > 1 {
-        return coded(m, 22);
+        return coded(22);
     }
-    let late = is_expired(m, l.tx);
+    let late = is_expired(&*s, l.tx);
     if late {
-        return coded(m, 28);
+        return coded(28);
     }
     let cut = hears_cut(p, l);
     if cut {
-        return tell_cut(m, a, l);
+        return tell_cut(&mut *s, i, a, l);
     }
     let over = hears_return(p, l);
     let failed = over & !(l.outcome == 8);
     if failed {
-        return tell_return(m, a, l);
+        return tell_return(&mut *s, i, a, l);
     }
     let holder = is_holder(p, l);
     let free = holder & (l.granting == 0);
     if !free {
-        return coded(m, 23);
+        return coded(23);
     }
     if l.filled >= Link::UNREAD {
-        return coded(m, 32);
+        return coded(32);
     }
     let k = with_sent(l, b, c);
-    let n = change(m, a, k);
-    accept(n, 0)
+    put_link(&mut *s, i, k);
+    accept(0)
 }
 
 // Kind 17.
-pub(crate) fn tpsend(m: Monitor, p: usize, a: u32, b: u32, c: u32) -> Ruled
-    requires { ⌜ m .count ≤ 32 ⌝ }
-    ensures { λ r. ⌜ r ≡ sendOf m p a b c ⌝ }
+pub(crate) fn tpsend(s: &mut [u32; WORDS], p: usize, a: u32, b: u32, c: u32) -> Told
+    requires { ⌜ (view (now s) .count ≤ 32) × (length (now s) ≡ words) ⌝ }
+    ensures { λ r. ⌜ (ruledBy r (view (now (s .exit))) ≡ sendOf (view (now (s .entry))) p a b c) × (length (now (s .exit)) ≡ words) ⌝ }
 {
-    let l = link_of(m, a);
-    send_on(m, p, a, b, c, l)
+    let i = place_of(&*s, a);
+    let len = count(&*s);
+    if len <= i {
+        return coded(24);
+    }
+    let l = link_at(&*s, i);
+    send_on(&mut *s, p, i, a, b, c, l)
 }
 
 // Does the oldest token carry the grant?
@@ -180,7 +196,7 @@ pub(crate) fn carries_grant(l: Link) -> bool
 }
 
 // The link with its oldest token gone.
-pub(crate) fn without_oldest(l: Link, sender: u8, granting: u8) -> Link
+pub(crate) fn without_oldest(l: Link, sender: u32, granting: u32) -> Link
     requires { ⌜ 0 < l .filled ⌝ }
     ensures { λ r. ⌜ r ≡ withoutOldest l sender granting ⌝ }
 {
@@ -193,10 +209,10 @@ pub(crate) fn without_oldest(l: Link, sender: u8, granting: u8) -> Link
     k
 }
 
-// The oldest token comes.
-pub(crate) fn receive(m: Monitor, p: usize, a: u32, l: Link) -> Ruled
-    requires { ⌜ (m .count ≤ 32) × (0 < l .filled) ⌝ }
-    ensures { λ r. ⌜ r ≡ received m p a l ⌝ }
+// The oldest token of the link a, which stands at the place i, comes.
+pub(crate) fn receive(s: &mut [u32; WORDS], p: usize, i: usize, a: u32, l: Link) -> Told
+    requires { ⌜ (view (now s) .count ≤ 32) × (length (now s) ≡ words) × (i ≡ placeOf (view (now s)) a) × (i < view (now s) .count) × (0 < l .filled) ⌝ }
+    ensures { λ r. ⌜ (ruledBy r (view (now (s .exit))) ≡ received (view (now (s .entry))) p a l) × (length (now (s .exit)) ≡ words) ⌝ }
 {
     let u = l.unread;
     let token = u[0];
@@ -204,9 +220,8 @@ pub(crate) fn receive(m: Monitor, p: usize, a: u32, l: Link) -> Ruled
     if grant {
         let side = end_side(p, l);
         let k = without_oldest(l, side, 0);
-        let n = change(m, a, k);
-        return Ruled {
-            monitor: n,
+        put_link(&mut *s, i, k);
+        return Told {
             code: 29,
             value: 0,
             event: 32,
@@ -215,9 +230,8 @@ pub(crate) fn receive(m: Monitor, p: usize, a: u32, l: Link) -> Ruled
         };
     }
     let k = without_oldest(l, l.sender, l.granting);
-    let n = change(m, a, k);
-    Ruled {
-        monitor: n,
+    put_link(&mut *s, i, k);
+    Told {
         code: 0,
         value: 0,
         event: 0,
@@ -226,69 +240,80 @@ pub(crate) fn receive(m: Monitor, p: usize, a: u32, l: Link) -> Ruled
     }
 }
 
-// Kind 18, on the link l.
-pub(crate) fn receive_on(m: Monitor, p: usize, a: u32, l: Link) -> Ruled
-    requires { ⌜ m .count ≤ 32 ⌝ }
-    ensures { λ r. ⌜ r ≡ receiveOn m p a l ⌝ }
+// Kind 18, on the link l with the number a, which stands at the place i.
+pub(crate) fn receive_on(s: &mut [u32; WORDS], p: usize, i: usize, a: u32, l: Link) -> Told
+    requires { ⌜ (view (now s) .count ≤ 32) × (length (now s) ≡ words) × (i ≡ placeOf (view (now s)) a) × (i < view (now s) .count) ⌝ }
+    ensures { λ r. ⌜ (ruledBy r (view (now (s .exit))) ≡ receiveOn (view (now (s .entry))) p a l) × (length (now (s .exit)) ≡ words) ⌝ }
 {
     let known = is_any_end(p, l);
     if !known {
-        return coded(m, 24);
+        return coded(24);
     }
-    let late = is_expired(m, l.tx);
+    let late = is_expired(&*s, l.tx);
     if late {
-        return coded(m, 28);
+        return coded(28);
     }
     let cut = hears_cut(p, l);
     if cut {
-        return tell_cut(m, a, l);
+        return tell_cut(&mut *s, i, a, l);
     }
     let over = hears_return(p, l);
     if over {
-        return tell_return(m, a, l);
+        return tell_return(&mut *s, i, a, l);
     }
     let holder = is_holder(p, l);
     if holder {
-        return coded(m, 23);
+        return coded(23);
     }
     if l.filled == 0 {
-        return coded(m, 32);
+        return coded(32);
     }
-    receive(m, p, a, l)
+    receive(&mut *s, p, i, a, l)
 }
 
 // Kind 18.
-pub(crate) fn tprecv(m: Monitor, p: usize, a: u32) -> Ruled
-    requires { ⌜ m .count ≤ 32 ⌝ }
-    ensures { λ r. ⌜ r ≡ receiveOf m p a ⌝ }
+pub(crate) fn tprecv(s: &mut [u32; WORDS], p: usize, a: u32) -> Told
+    requires { ⌜ (view (now s) .count ≤ 32) × (length (now s) ≡ words) ⌝ }
+    ensures { λ r. ⌜ (ruledBy r (view (now (s .exit))) ≡ receiveOf (view (now (s .entry))) p a) × (length (now (s .exit)) ≡ words) ⌝ }
 {
-    let l = link_of(m, a);
-    receive_on(m, p, a, l)
+    let i = place_of(&*s, a);
+    let len = count(&*s);
+    if len <= i {
+        return coded(24);
+    }
+    let l = link_at(&*s, i);
+    receive_on(&mut *s, p, i, a, l)
 }
 
-// The conversation is cut if working, and else goes.
-pub(crate) fn hang_up(m: Monitor, a: u32, l: Link) -> Monitor
-    requires { ⌜ m .count ≤ 32 ⌝ }
-    ensures { λ r. ⌜ r ≡ hungUp m a l ⌝ }
+// The conversation a, which stands at the place i, is cut if working, and else goes.
+pub(crate) fn hang_up(s: &mut [u32; WORDS], i: usize, a: u32, l: Link)
+    requires { ⌜ (view (now s) .count ≤ 32) × (length (now s) ≡ words) × (i ≡ placeOf (view (now s)) a) × (i < view (now s) .count) ⌝ }
+    ensures { λ _. ⌜ (view (now (s .exit)) ≡ hungUp (view (now (s .entry))) a l) × (length (now (s .exit)) ≡ words) ⌝ }
 {
     if l.state == 1 {
         let k = cut_off(l);
-        return change(m, a, k);
+        put_link(&mut *s, i, k);
+        return;
     }
-    remove(m, a)
+    remove_at(&mut *s, i, a);
 }
 
 // Kind 19.
-pub(crate) fn tpdiscon(m: Monitor, p: usize, a: u32) -> Ruled
-    requires { ⌜ m .count ≤ 32 ⌝ }
-    ensures { λ r. ⌜ r ≡ disconnectOf m p a ⌝ }
+pub(crate) fn tpdiscon(s: &mut [u32; WORDS], p: usize, a: u32) -> Told
+    requires { ⌜ (view (now s) .count ≤ 32) × (length (now s) ≡ words) ⌝ }
+    ensures { λ r. ⌜ (ruledBy r (view (now (s .exit))) ≡ disconnectOf (view (now (s .entry))) p a) × (length (now (s .exit)) ≡ words) ⌝ }
 {
-    let l = link_of(m, a);
+    let i = place_of(&*s, a);
+    let len = count(&*s);
+    if len <= i {
+        return coded(24);
+    }
+    let l = link_at(&*s, i);
     let own = is_originator_end(p, l);
     if !own {
-        return coded(m, 24);
+        return coded(24);
     }
-    let n = doom_tx(m, l.tx);
-    let k = hang_up(n, a, l);
-    accept(k, 0)
+    doom_tx(&mut *s, l.tx);
+    hang_up(&mut *s, i, a, l);
+    accept(0)
 }

@@ -1,18 +1,22 @@
 // The drill file: calls as numbers in groups of seven bits, six to a call; reading one, running a file, writing one.
 ghost use mathlib.Core.Path.{_≡_};
-ghost use mathlib.Core.Bool.{Bool};
-ghost use Prim.Native.Nat.{ℕ, _+_, _*_, _<_, _≤_};
+ghost use mathlib.Core.Bool.{true};
+ghost use Prim.Native.Nat.{_+_, _*_, _<_, _≤_};
 ghost use lib.Dec.{leb};
 ghost use lib.ListN.{length};
 ghost use lib.Seq.{sets};
+ghost use Rattle.rules.specs.Sound.{sound};
+ghost use Rattle.monitor.specs.Words.{words};
+ghost use Rattle.monitor.specs.View.{view};
 ghost use Rattle.monitor.specs.File.{readCall, found, passed, pieceRun, pieceOf, fileOf, fileCalls, fileBytes, written, writeAnswer, writeBuffer};
 use super::run::put;
-use super::sound::is_sound;
+use super::sound::is_sound_in;
 use super::steps::call_on;
+use super::words::Store;
+use super::words::WORDS;
 use number::Decoded;
 use number::Encoded;
 use rules::Call;
-use rules::Monitor;
 
 // What stands at a place of a drill file.
 pub enum Found {
@@ -65,21 +69,28 @@ pub fn read_call(input: &[u8], place: usize) -> Found
     )
 }
 
-// What a drill file gives, beside its answers: the record after its calls, its code, how many calls were run, and the place after them.
+// What a drill file tells, beside its answers and the record: its code, how many calls were run, and the place after them.
+#[repr(C)]
+pub struct Passed {
+    pub code: i64,
+    pub calls: usize,
+    pub used: usize,
+}
+
+// The same, with the record after its calls.
 pub struct FileRan {
-    pub monitor: Monitor,
+    pub store: Store,
     pub code: i64,
     pub calls: usize,
     pub used: usize,
 }
 
 // The calls of a piece of a file on a sound record, as many as there are answer places for; `last` says that the file ends with the piece.
-fn run_calls(m: Monitor, input: &[u8], last: bool, answers: &mut [i64]) -> FileRan
-    requires { ⌜ m .count ≤ 32 ⌝ }
-    ensures { λ r. ⌜ passed (r .monitor) (r .code) (r .calls) (r .used) (now (answers .exit)) ≡ pieceRun m (now (input .entry)) last (now (answers .entry)) ⌝ }
+fn run_calls(s: &mut [u32; WORDS], input: &[u8], last: bool, answers: &mut [i64]) -> Passed
+    requires { ⌜ (sound (view (now s)) ≡ true) × (length (now s) ≡ words) ⌝ }
+    ensures { λ r. ⌜ (passed (view (now (s .exit))) (r .code) (r .calls) (r .used) (now (answers .exit)) ≡ pieceRun (view (now (s .entry))) (now (input .entry)) last (now (answers .entry))) × (length (now (s .exit)) ≡ words) ⌝ }
 {
     let most = answers.len() / 6;
-    let mut cur = m;
     let mut at = 0;
     let mut n = 0;
     loop {
@@ -87,24 +98,19 @@ fn run_calls(m: Monitor, input: &[u8], last: bool, answers: &mut [i64]) -> FileR
         match found {
             Found::Whole(call, next) => {
                 if most <= n {
-                    return FileRan {
-                        monitor: cur,
+                    return Passed {
                         code: 0,
                         calls: n,
                         used: at,
                     };
                 }
-                let s = call_on(cur, call);
-                let r = s.answer;
+                let r = call_on(&mut *s, call);
                 put(&mut *answers, n * 6, r);
-                let after = s.monitor;
-                cur = after;
                 at = next;
                 n += 1;
             }
             Found::End => {
-                return FileRan {
-                    monitor: cur,
+                return Passed {
                     code: 0,
                     calls: n,
                     used: at,
@@ -112,23 +118,20 @@ fn run_calls(m: Monitor, input: &[u8], last: bool, answers: &mut [i64]) -> FileR
             }
             Found::CutShort => {
                 if last {
-                    return FileRan {
-                        monitor: cur,
+                    return Passed {
                         code: 17,
                         calls: n,
                         used: at,
                     };
                 }
-                return FileRan {
-                    monitor: cur,
+                return Passed {
                     code: 0,
                     calls: n,
                     used: at,
                 };
             }
             Found::Malformed => {
-                return FileRan {
-                    monitor: cur,
+                return Passed {
                     code: 18,
                     calls: n,
                     used: at,
@@ -138,20 +141,38 @@ fn run_calls(m: Monitor, input: &[u8], last: bool, answers: &mut [i64]) -> FileR
     }
 }
 
-// A piece of a file.
-pub fn run_piece(m: Monitor, input: &[u8], last: bool, answers: &mut [i64]) -> FileRan
-    ensures { λ r. ⌜ passed (r .monitor) (r .code) (r .calls) (r .used) (now (answers .exit)) ≡ pieceOf m (now (input .entry)) last (now (answers .entry)) ⌝ }
+// A piece of a file, on whatever record is lent.
+pub(crate) fn piece_on(
+    s: &mut [u32; WORDS],
+    input: &[u8],
+    last: bool,
+    answers: &mut [i64],
+) -> Passed
+    requires { ⌜ length (now s) ≡ words ⌝ }
+    ensures { λ r. ⌜ (passed (view (now (s .exit))) (r .code) (r .calls) (r .used) (now (answers .exit)) ≡ pieceOf (view (now (s .entry))) (now (input .entry)) last (now (answers .entry))) × (length (now (s .exit)) ≡ words) ⌝ }
 {
-    let ok = is_sound(m);
+    let ok = is_sound_in(&*s);
     if !ok {
-        return FileRan {
-            monitor: m,
+        return Passed {
             code: 19,
             calls: 0,
             used: 0,
         };
     }
-    run_calls(m, input, last, answers)
+    run_calls(&mut *s, input, last, &mut *answers)
+}
+
+// A piece of a file.
+pub fn run_piece(mut m: Store, input: &[u8], last: bool, answers: &mut [i64]) -> FileRan
+    ensures { λ r. ⌜ passed (view (r .store .words)) (r .code) (r .calls) (r .used) (now (answers .exit)) ≡ pieceOf (view (m .words)) (now (input .entry)) last (now (answers .entry)) ⌝ }
+{
+    let r = piece_on(&mut m.words, input, last, &mut *answers);
+    FileRan {
+        store: m,
+        code: r.code,
+        calls: r.calls,
+        used: r.used,
+    }
 }
 
 // How many whole calls a file has, before its end or a bad number.
@@ -180,20 +201,33 @@ fn count_calls(input: &[u8]) -> usize
     }
 }
 
-// A whole file.
-pub fn run_file(m: Monitor, input: &[u8], answers: &mut [i64]) -> FileRan
-    ensures { λ r. ⌜ passed (r .monitor) (r .code) (r .calls) (r .used) (now (answers .exit)) ≡ fileOf m (now (input .entry)) (now (answers .entry)) ⌝ }
+// A whole file, on whatever record is lent.
+pub(crate) fn file_on(s: &mut [u32; WORDS], input: &[u8], answers: &mut [i64]) -> Passed
+    requires { ⌜ length (now s) ≡ words ⌝ }
+    ensures { λ r. ⌜ (passed (view (now (s .exit))) (r .code) (r .calls) (r .used) (now (answers .exit)) ≡ fileOf (view (now (s .entry))) (now (input .entry)) (now (answers .entry))) × (length (now (s .exit)) ≡ words) ⌝ }
 {
     let whole = count_calls(input);
     if answers.len() / 6 < whole {
-        return FileRan {
-            monitor: m,
+        return Passed {
             code: 16,
             calls: 0,
             used: 0,
         };
     }
-    run_piece(m, input, true, answers)
+    piece_on(&mut *s, input, true, &mut *answers)
+}
+
+// A whole file.
+pub fn run_file(mut m: Store, input: &[u8], answers: &mut [i64]) -> FileRan
+    ensures { λ r. ⌜ passed (view (r .store .words)) (r .code) (r .calls) (r .used) (now (answers .exit)) ≡ fileOf (view (m .words)) (now (input .entry)) (now (answers .entry)) ⌝ }
+{
+    let r = file_on(&mut m.words, input, &mut *answers);
+    FileRan {
+        store: m,
+        code: r.code,
+        calls: r.calls,
+        used: r.used,
+    }
 }
 
 // What writing a file tells.

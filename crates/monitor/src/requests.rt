@@ -1,31 +1,37 @@
 // Kinds 12 to 16: a request, a connect, the dispatch of a waiting link, and a request's reply fetched or given up.
 ghost use mathlib.Core.Path.{_≡_};
-ghost use Prim.Native.Nat.{ℕ, _+_, _<_, _≤_};
-ghost use lib.Dec.{eqb};
-ghost use lib.IntN.{ℤ, pos};
+ghost use Prim.Native.Nat.{_+_, _<_, _≤_};
+ghost use lib.ListN.{length};
 ghost use Rattle.rules.specs.Choice.{pick};
-ghost use Rattle.rules.specs.Record.{added, valued};
-ghost use Rattle.rules.specs.Requests.{noReply, noTran, recvOnly, connectFlags, linkTx, newLink, askLink, requestOf, connectOf, isIdle, fits, dispatchEvent, dispatched, nextWaiting, dispatchOf, requestEnd, outcomeCode, fetched, fetchOf, cancelled, cancelOf};
-ghost use Rattle.monitor.specs.Numbered.{withNumber};
+ghost use Rattle.rules.specs.Record.{placeOf, added, valued, newLink};
+ghost use Rattle.rules.specs.Requests.{noReply, noTran, recvOnly, connectFlags, linkTx, linkLeft, askLink, requestOf, connectOf, isIdle, fits, dispatchEvent, dispatched, nextWaiting, dispatchOf, requestEnd, outcomeCode, fetched, fetchOf, cancelled, cancelOf};
+ghost use Rattle.monitor.specs.Words.{words};
+ghost use Rattle.monitor.specs.View.{view, ruledBy};
+use super::Told;
 use super::links::accept;
-use super::links::add;
-use super::links::change;
 use super::links::close_end;
 use super::links::coded;
 use super::links::has_own_end;
 use super::links::is_own_end;
-use super::links::link_of;
-use super::links::remove;
+use super::links::place_of;
+use super::links::remove_at;
 use super::services::is_offered;
 use super::services::is_offering;
 use super::services::is_service;
 use super::transaction::is_ended;
 use super::transaction::is_expired;
 use super::transaction::tx_of;
+use super::words::WORDS;
+use super::words::add_link;
+use super::words::count;
+use super::words::last_link;
+use super::words::link_at;
+use super::words::party_at;
+use super::words::put_link;
+use super::words::put_party;
 use rules::Link;
 use rules::Monitor;
 use rules::Party;
-use rules::Ruled;
 
 // The flags of a request: 1 TPNOREPLY, 2 TPNOTRAN; of a connect: 2, 4 TPSENDONLY, 8 TPRECVONLY.
 pub(crate) fn no_reply(b: u32) -> bool
@@ -40,41 +46,62 @@ pub(crate) fn no_tran(b: u32) -> bool
     b / 2 % 2 == 1
 }
 
-pub(crate) fn recv_only(b: u32) -> bool
-    ensures { λ r. ⌜ r ≡ recvOnly b ⌝ }
-{
-    b / 8 % 2 == 1
-}
-
 pub(crate) fn connect_flags(b: u32) -> bool
     ensures { λ r. ⌜ r ≡ connectFlags b ⌝ }
 {
     (b <= 15) & ((b % 2 == 0) & !(b / 4 % 2 == b / 8 % 2))
 }
 
-// The transaction of a new link with the flags b.
-pub(crate) fn link_tx(m: Monitor, p: usize, b: u32) -> u32
-    requires { ⌜ (p < 16) × (m .count ≤ 32) ⌝ }
-    ensures { λ r. ⌜ r ≡ linkTx m p b ⌝ }
+// A new link with the flags b: its originator's end, its sender and its transaction.
+pub(crate) fn open_end(b: u32) -> u32
+    ensures { λ r. ⌜ r ≡ pick (noReply b) 0 1 ⌝ }
+{
+    if b % 2 == 1 {
+        return 0;
+    }
+    1
+}
+
+pub(crate) fn first_sender(b: u32) -> u32
+    ensures { λ r. ⌜ r ≡ pick (recvOnly b) 1 0 ⌝ }
+{
+    if b / 8 % 2 == 1 {
+        return 1;
+    }
+    0
+}
+
+pub(crate) fn link_tx(s: &[u32; WORDS], p: usize, b: u32) -> u32
+    requires { ⌜ (p < 16) × (view (now s) .count ≤ 32) ⌝ }
+    ensures { λ r. ⌜ r ≡ linkTx (view (now (s .entry))) p b ⌝ }
 {
     let none = no_tran(b);
     if none {
         return 0;
     }
-    tx_of(m, p)
+    tx_of(s, p)
 }
 
-// A waiting link of party p's, with no number yet.
-pub(crate) fn new_link(kind: u8, p: usize, attached: u8, a: u32, t: u32, c: u32, sender: u8) -> Link
-    requires { ⌜ (p < 16) × (a ≤ 64) ⌝ }
-    ensures { λ r. ⌜ r ≡ newLink 0 kind p attached a t c sender ⌝ }
+// A waiting link of party p's.
+pub(crate) fn new_link(
+    n: u32,
+    kind: u32,
+    p: usize,
+    attached: u32,
+    a: u32,
+    t: u32,
+    c: u32,
+    sender: u32,
+) -> Link
+    requires { ⌜ p < 16 ⌝ }
+    ensures { λ r. ⌜ r ≡ newLink n kind p attached a t c sender ⌝ }
 {
     Link {
-        number: 0,
+        number: n,
         kind,
-        originator: p as u8,
+        originator: p as u32,
         attached,
-        service: a as u8,
+        service: a,
         tx: t,
         state: 0,
         server: 0,
@@ -89,109 +116,142 @@ pub(crate) fn new_link(kind: u8, p: usize, attached: u8, a: u32, t: u32, c: u32,
     }
 }
 
-// The questions after the flags; then the link gets its number and its place. The value is the number, 0 where no end is open.
-pub(crate) fn open_link(m: Monitor, l: Link) -> Ruled
-    ensures { λ r. ⌜ r ≡ askLink m (l .tx) (l .service) (valued (added m (withNumber l (m .lastlink + 1))) (pick (eqb (l .attached) 0) 0 (m .lastlink + 1))) ⌝ }
+// Is there room for a link, and a number left?
+pub(crate) fn is_link_left(s: &[u32; WORDS]) -> bool
+    ensures { λ r. ⌜ r ≡ linkLeft (view (now (s .entry))) ⌝ }
 {
-    let ended = is_ended(m, l.tx);
+    let len = count(s);
+    let last = last_link(s);
+    (len < Monitor::LINKS) & (last < Monitor::NUMBERS)
+}
+
+// The questions after the flags: the number of the first "no", and 0 where there is none.
+pub(crate) fn ask_link(s: &[u32; WORDS], t: u32, a: u32) -> i64
+    ensures { λ r. ⌜ r ≡ askLink (view (now (s .entry))) t a (valued (view (now (s .entry))) 0) .code ⌝ }
+{
+    let ended = is_ended(s, t);
     if ended {
-        return coded(m, 23);
+        return 23;
     }
-    let late = is_expired(m, l.tx);
+    let late = is_expired(s, t);
     if late {
-        return coded(m, 28);
+        return 28;
     }
-    let some = is_offered(m, l.service as u32);
+    let some = is_offered(s, a);
     if !some {
-        return coded(m, 25);
+        return 25;
     }
-    if m.count >= Monitor::LINKS {
-        return coded(m, 26);
+    let left = is_link_left(s);
+    if !left {
+        return 26;
     }
-    if m.lastlink >= Monitor::NUMBERS {
-        return coded(m, 26);
-    }
-    let d = m.lastlink + 1;
-    let mut k = l;
-    k.number = d;
-    let n = add(m, k);
-    if l.attached == 0 {
-        return accept(n, 0);
-    }
-    accept(n, d)
+    0
+}
+
+// The new link gets the next number, which is the value, and its place.
+pub(crate) fn open_link(
+    s: &mut [u32; WORDS],
+    kind: u32,
+    p: usize,
+    attached: u32,
+    a: u32,
+    t: u32,
+    c: u32,
+    sender: u32,
+) -> u32
+    requires { ⌜ (p < 16) × (view (now s) .count < 32) × (view (now s) .lastlink < 60000) × (length (now s) ≡ words) ⌝ }
+    ensures { λ r. ⌜ (r ≡ view (now (s .entry)) .lastlink + 1) × (view (now (s .exit)) ≡ added (view (now (s .entry))) (newLink (view (now (s .entry)) .lastlink + 1) kind p attached a t c sender)) × (length (now (s .exit)) ≡ words) ⌝ }
+{
+    let last = last_link(&*s);
+    let d = last + 1;
+    let l = new_link(d, kind, p, attached, a, t, c, sender);
+    add_link(&mut *s, l);
+    d
 }
 
 // Kind 12.
-pub(crate) fn tpacall(m: Monitor, p: usize, a: u32, b: u32, c: u32) -> Ruled
-    requires { ⌜ (p < 16) × (m .count ≤ 32) ⌝ }
-    ensures { λ r. ⌜ r ≡ requestOf m p a b c ⌝ }
+pub(crate) fn tpacall(s: &mut [u32; WORDS], p: usize, a: u32, b: u32, c: u32) -> Told
+    requires { ⌜ (p < 16) × (view (now s) .count ≤ 32) × (length (now s) ≡ words) ⌝ }
+    ensures { λ r. ⌜ (ruledBy r (view (now (s .exit))) ≡ requestOf (view (now (s .entry))) p a b c) × (length (now (s .exit)) ≡ words) ⌝ }
 {
-    let own = tx_of(m, p);
+    let own = tx_of(&*s, p);
     let service = is_service(a);
     let good = service & ((b <= 3) & !((b == 1) & !(own == 0)));
     if !good {
-        return coded(m, 22);
+        return coded(22);
     }
-    let t = link_tx(m, p, b);
+    let t = link_tx(&*s, p, b);
+    let code = ask_link(&*s, t, a);
+    if code != 0 {
+        return coded(code);
+    }
+    let attached = open_end(b);
+    let d = open_link(&mut *s, 0, p, attached, a, t, c, 0);
     let silent = no_reply(b);
     if silent {
-        let l = new_link(0, p, 0, a, t, c, 0);
-        return open_link(m, l);
+        return accept(0);
     }
-    let l = new_link(0, p, 1, a, t, c, 0);
-    open_link(m, l)
+    accept(d)
 }
 
 // Kind 13.
-pub(crate) fn tpconnect(m: Monitor, p: usize, a: u32, b: u32, c: u32) -> Ruled
-    requires { ⌜ (p < 16) × (m .count ≤ 32) ⌝ }
-    ensures { λ r. ⌜ r ≡ connectOf m p a b c ⌝ }
+pub(crate) fn tpconnect(s: &mut [u32; WORDS], p: usize, a: u32, b: u32, c: u32) -> Told
+    requires { ⌜ (p < 16) × (view (now s) .count ≤ 32) × (length (now s) ≡ words) ⌝ }
+    ensures { λ r. ⌜ (ruledBy r (view (now (s .exit))) ≡ connectOf (view (now (s .entry))) p a b c) × (length (now (s .exit)) ≡ words) ⌝ }
 {
     let service = is_service(a);
     let flags = connect_flags(b);
     let good = service & flags;
     if !good {
-        return coded(m, 22);
+        return coded(22);
     }
-    let t = link_tx(m, p, b);
-    let receives = recv_only(b);
-    if receives {
-        let l = new_link(1, p, 1, a, t, c, 1);
-        return open_link(m, l);
+    let t = link_tx(&*s, p, b);
+    let code = ask_link(&*s, t, a);
+    if code != 0 {
+        return coded(code);
     }
-    let l = new_link(1, p, 1, a, t, c, 0);
-    open_link(m, l)
+    let sender = first_sender(b);
+    let d = open_link(&mut *s, 1, p, 1, a, t, c, sender);
+    accept(d)
 }
 
 // May party p take a link?
-pub(crate) fn is_idle(m: Monitor, p: usize) -> bool
-    requires { ⌜ (p < 16) × (m .count ≤ 32) ⌝ }
-    ensures { λ r. ⌜ r ≡ isIdle m p ⌝ }
+pub(crate) fn is_idle(s: &[u32; WORDS], p: usize) -> bool
+    requires { ⌜ (p < 16) × (view (now s) .count ≤ 32) ⌝ }
+    ensures { λ r. ⌜ r ≡ isIdle (view (now (s .entry))) p ⌝ }
 {
-    let q = m.parties[p];
-    let t = tx_of(m, p);
-    let ends = has_own_end(m, p);
-    (q.opened == 1) & ((q.served == 0) & ((t == 0) & !ends))
+    let q = party_at(s, p);
+    if q.opened != 1 {
+        return false;
+    }
+    if q.served != 0 {
+        return false;
+    }
+    if q.owned != 0 {
+        return false;
+    }
+    let ends = has_own_end(s, p);
+    !ends
 }
 
 // Is it a waiting link of a service that the party offers?
 pub(crate) fn is_for(q: Party, l: Link) -> bool
     ensures { λ r. ⌜ r ≡ fits q l ⌝ }
 {
-    let has = is_offering(l.service as u32, q);
+    let has = is_offering(l.service, q);
     (l.state == 0) & has
 }
 
 // The place of the waiting link with the lowest number, or how many links there are.
-pub(crate) fn next_waiting(m: Monitor, p: usize) -> usize
-    requires { ⌜ (p < 16) × (m .count ≤ 32) ⌝ }
-    ensures { λ r. ⌜ r ≡ nextWaiting m p ⌝ }
+pub(crate) fn next_waiting(s: &[u32; WORDS], p: usize) -> usize
+    requires { ⌜ (p < 16) × (view (now s) .count ≤ 32) ⌝ }
+    ensures { λ r. ⌜ r ≡ nextWaiting (view (now (s .entry))) p ⌝ }
 {
-    let q = m.parties[p];
-    let len = m.count;
+    let q = party_at(s, p);
+    let len = count(s);
     let mut i = 0;
     while i < len {
-        let l = m.links[i];
+        let l = link_at(s, i);
         let waits = is_for(q, l);
         if waits {
             return i;
@@ -214,44 +274,43 @@ pub(crate) fn dispatch_event(l: Link) -> u32
 }
 
 // The link l at the place i becomes working for party p.
-pub(crate) fn dispatch(m: Monitor, p: usize, i: usize, l: Link) -> Ruled
-    requires { ⌜ (p < 16) × (i < 32) ⌝ }
-    ensures { λ r. ⌜ r ≡ dispatched m p i l ⌝ }
+pub(crate) fn dispatch(s: &mut [u32; WORDS], p: usize, i: usize, l: Link) -> Told
+    requires { ⌜ (p < 16) × (i < 32) × (length (now s) ≡ words) ⌝ }
+    ensures { λ r. ⌜ (ruledBy r (view (now (s .exit))) ≡ dispatched (view (now (s .entry))) p i l) × (length (now (s .exit)) ≡ words) ⌝ }
 {
     let event = dispatch_event(l);
-    let mut q = m.parties[p];
+    let mut q = party_at(&*s, p);
     q.served = l.number;
     let mut k = l;
     k.state = 1;
-    k.server = p as u8;
-    let mut n = m;
-    n.parties[p] = q;
-    n.links[i] = k;
-    Ruled {
-        monitor: n,
+    k.server = p as u32;
+    put_party(&mut *s, p, q);
+    put_link(&mut *s, i, k);
+    Told {
         code: 0,
         value: l.number,
         event,
         token: l.first,
-        service: l.service as u32,
+        service: l.service,
     }
 }
 
 // Kind 14.
-pub(crate) fn take(m: Monitor, p: usize) -> Ruled
-    requires { ⌜ (p < 16) × (m .count ≤ 32) ⌝ }
-    ensures { λ r. ⌜ r ≡ dispatchOf m p ⌝ }
+pub(crate) fn take(s: &mut [u32; WORDS], p: usize) -> Told
+    requires { ⌜ (p < 16) × (view (now s) .count ≤ 32) × (length (now s) ≡ words) ⌝ }
+    ensures { λ r. ⌜ (ruledBy r (view (now (s .exit))) ≡ dispatchOf (view (now (s .entry))) p) × (length (now (s .exit)) ≡ words) ⌝ }
 {
-    let idle = is_idle(m, p);
+    let idle = is_idle(&*s, p);
     if !idle {
-        return coded(m, 23);
+        return coded(23);
     }
-    let i = next_waiting(m, p);
-    if i < m.count {
-        let l = m.links[i];
-        return dispatch(m, p, i, l);
+    let i = next_waiting(&*s, p);
+    let len = count(&*s);
+    if i < len {
+        let l = link_at(&*s, i);
+        return dispatch(&mut *s, p, i, l);
     }
-    coded(m, 32)
+    coded(32)
 }
 
 pub(crate) fn is_request_end(p: usize, l: Link) -> bool
@@ -261,7 +320,7 @@ pub(crate) fn is_request_end(p: usize, l: Link) -> bool
     (l.kind == 0) & own
 }
 
-pub(crate) fn outcome_code(o: u8) -> i64
+pub(crate) fn outcome_code(o: u32) -> i64
     ensures { λ r. ⌜ r ≡ outcomeCode o ⌝ }
 {
     if o == 8 {
@@ -273,15 +332,14 @@ pub(crate) fn outcome_code(o: u8) -> i64
     31
 }
 
-// The reply of link a is taken, and the link goes.
-pub(crate) fn fetch(m: Monitor, a: u32, l: Link) -> Ruled
-    requires { ⌜ m .count ≤ 32 ⌝ }
-    ensures { λ r. ⌜ r ≡ fetched m a l ⌝ }
+// The reply of link a, which stands at the place i, is taken, and the link goes.
+pub(crate) fn fetch(s: &mut [u32; WORDS], i: usize, a: u32, l: Link) -> Told
+    requires { ⌜ (view (now s) .count ≤ 32) × (length (now s) ≡ words) × (i ≡ placeOf (view (now s)) a) ⌝ }
+    ensures { λ r. ⌜ (ruledBy r (view (now (s .exit))) ≡ fetched (view (now (s .entry))) a l) × (length (now (s .exit)) ≡ words) ⌝ }
 {
-    let n = remove(m, a);
+    remove_at(&mut *s, i, a);
     let code = outcome_code(l.outcome);
-    Ruled {
-        monitor: n,
+    Told {
         code,
         value: 0,
         event: 0,
@@ -291,49 +349,61 @@ pub(crate) fn fetch(m: Monitor, a: u32, l: Link) -> Ruled
 }
 
 // Kind 15.
-pub(crate) fn tpgetrply(m: Monitor, p: usize, a: u32) -> Ruled
-    requires { ⌜ m .count ≤ 32 ⌝ }
-    ensures { λ r. ⌜ r ≡ fetchOf m p a ⌝ }
+pub(crate) fn tpgetrply(s: &mut [u32; WORDS], p: usize, a: u32) -> Told
+    requires { ⌜ (view (now s) .count ≤ 32) × (length (now s) ≡ words) ⌝ }
+    ensures { λ r. ⌜ (ruledBy r (view (now (s .exit))) ≡ fetchOf (view (now (s .entry))) p a) × (length (now (s .exit)) ≡ words) ⌝ }
 {
-    let l = link_of(m, a);
+    let i = place_of(&*s, a);
+    let len = count(&*s);
+    if len <= i {
+        return coded(24);
+    }
+    let l = link_at(&*s, i);
     let own = is_request_end(p, l);
     if !own {
-        return coded(m, 24);
+        return coded(24);
     }
-    let late = is_expired(m, l.tx);
+    let late = is_expired(&*s, l.tx);
     if late {
-        return coded(m, 28);
+        return coded(28);
     }
     if l.state != 2 {
-        return coded(m, 32);
+        return coded(32);
     }
-    fetch(m, a, l)
+    fetch(&mut *s, i, a, l)
 }
 
-pub(crate) fn cancel(m: Monitor, a: u32, l: Link) -> Monitor
-    requires { ⌜ m .count ≤ 32 ⌝ }
-    ensures { λ r. ⌜ r ≡ cancelled m a l ⌝ }
+// The end of link a, which stands at the place i, closes.
+pub(crate) fn cancel(s: &mut [u32; WORDS], i: usize, a: u32, l: Link)
+    requires { ⌜ (view (now s) .count ≤ 32) × (length (now s) ≡ words) × (i ≡ placeOf (view (now s)) a) × (i < view (now s) .count) ⌝ }
+    ensures { λ _. ⌜ (view (now (s .exit)) ≡ cancelled (view (now (s .entry))) a l) × (length (now (s .exit)) ≡ words) ⌝ }
 {
     if l.state == 2 {
-        return remove(m, a);
+        remove_at(&mut *s, i, a);
+        return;
     }
     let k = close_end(l);
-    change(m, a, k)
+    put_link(&mut *s, i, k);
 }
 
 // Kind 16.
-pub(crate) fn tpcancel(m: Monitor, p: usize, a: u32) -> Ruled
-    requires { ⌜ m .count ≤ 32 ⌝ }
-    ensures { λ r. ⌜ r ≡ cancelOf m p a ⌝ }
+pub(crate) fn tpcancel(s: &mut [u32; WORDS], p: usize, a: u32) -> Told
+    requires { ⌜ (view (now s) .count ≤ 32) × (length (now s) ≡ words) ⌝ }
+    ensures { λ r. ⌜ (ruledBy r (view (now (s .exit))) ≡ cancelOf (view (now (s .entry))) p a) × (length (now (s .exit)) ≡ words) ⌝ }
 {
-    let l = link_of(m, a);
+    let i = place_of(&*s, a);
+    let len = count(&*s);
+    if len <= i {
+        return coded(24);
+    }
+    let l = link_at(&*s, i);
     let own = is_request_end(p, l);
     if !own {
-        return coded(m, 24);
+        return coded(24);
     }
     if l.tx != 0 {
-        return coded(m, 27);
+        return coded(27);
     }
-    let n = cancel(m, a, l);
-    accept(n, 0)
+    cancel(&mut *s, i, a, l);
+    accept(0)
 }

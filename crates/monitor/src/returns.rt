@@ -1,28 +1,38 @@
 // Kinds 20 and 21: a service returns, and a party dies.
 ghost use mathlib.Core.Path.{_≡_};
-ghost use Prim.Native.Nat.{ℕ, _+_, _<_, _≤_};
-ghost use lib.Dec.{eqb};
-ghost use Rattle.rules.specs.Choice.{pick};
-ghost use Rattle.rules.specs.Record.{isServerFree, live, withParties};
-ghost use Rattle.rules.specs.Return.{plainOutcome, outcomeOf, unreadAfter, doomedBy, closeOwn, endOwn, doomServed, servesNone, endingOf, handBack, leave, returnWith, returnOf, diedOut, terminateOf};
-use super::conversations::is_originator_end;
+ghost use Prim.Native.Nat.{_<_, _≤_};
+ghost use lib.ListN.{length};
+ghost use Rattle.rules.specs.Record.{isServerFree};
+ghost use Rattle.rules.specs.Return.{plainOutcome, outcomeOf, unreadAfter, closeOwn, endOwn, doomServed, servesNone, endingOf, handBack, leave, returnWith, returnOf, diedOut, terminateOf};
+ghost use Rattle.monitor.specs.Words.{words};
+ghost use Rattle.monitor.specs.View.{view, ruledBy};
+use super::Told;
 use super::links::accept;
-use super::links::change;
+use super::links::change_at;
 use super::links::close_end;
 use super::links::coded;
 use super::links::cut_off;
 use super::links::drop_unread;
+use super::links::first_own;
 use super::links::has_own_end;
 use super::links::is_own_end;
-use super::links::link_of;
-use super::links::remove;
-use super::links::set_party;
+use super::links::keep_first;
+use super::links::live_at;
+use super::links::place_of;
+use super::links::remove_at;
 use super::transaction::doom_tx;
 use super::transaction::end_tx;
+use super::transaction::first_of_tx;
+use super::words::WORDS;
+use super::words::count;
+use super::words::link_at;
+use super::words::owned_at;
+use super::words::party_at;
+use super::words::put_link;
+use super::words::put_party;
+use super::words::served_at;
 use rules::Link;
-use rules::Monitor;
 use rules::Party;
-use rules::Ruled;
 
 // Is the server the free holder?
 pub(crate) fn is_server_free(l: Link) -> bool
@@ -31,7 +41,7 @@ pub(crate) fn is_server_free(l: Link) -> bool
     (l.sender == 1) & (l.granting == 0)
 }
 
-pub(crate) fn plain_outcome(a: u32) -> u8
+pub(crate) fn plain_outcome(a: u32) -> u32
     ensures { λ r. ⌜ r ≡ plainOutcome a ⌝ }
 {
     if a == 1 {
@@ -40,13 +50,13 @@ pub(crate) fn plain_outcome(a: u32) -> u8
     4
 }
 
-pub(crate) fn outcome_of(m: Monitor, p: usize, a: u32, c: u32, l: Link) -> u8
-    requires { ⌜ (p < 16) × (m .count ≤ 32) ⌝ }
-    ensures { λ r. ⌜ r ≡ outcomeOf m p a c l ⌝ }
+pub(crate) fn outcome_of(s: &[u32; WORDS], p: usize, a: u32, c: u32, l: Link) -> u32
+    requires { ⌜ (p < 16) × (view (now s) .count ≤ 32) ⌝ }
+    ensures { λ r. ⌜ r ≡ outcomeOf (view (now (s .entry))) p a c l ⌝ }
 {
-    let q = m.parties[p];
-    let ends = has_own_end(m, p);
-    let open = ends | !(q.owned == 0);
+    let owned = owned_at(s, p);
+    let ends = has_own_end(s, p);
+    let open = ends | !(owned == 0);
     if open {
         return 2;
     }
@@ -68,7 +78,7 @@ pub(crate) fn outcome_of(m: Monitor, p: usize, a: u32, c: u32, l: Link) -> u8
 }
 
 // The served link, its unread dropped or kept.
-pub(crate) fn unread_after(o: u8, l: Link) -> Link
+pub(crate) fn unread_after(o: u32, l: Link) -> Link
     ensures { λ r. ⌜ r ≡ unreadAfter o l ⌝ }
 {
     let free = is_server_free(l);
@@ -79,103 +89,78 @@ pub(crate) fn unread_after(o: u8, l: Link) -> Link
     l
 }
 
-// Each of party p's open conversations dooms its live transaction.
-pub(crate) fn doom_by(m: Monitor, p: usize) -> Monitor
-    requires { ⌜ m .count ≤ 32 ⌝ }
-    ensures { λ r. ⌜ r ≡ withParties m (doomedBy p (live m) (m .parties)) ⌝ }
-{
-    let len = m.count;
-    let mut n = m;
-    let mut i = 0;
-    while i < len {
-        let l = m.links[i];
-        let own = is_originator_end(p, l);
-        if own {
-            let next = doom_tx(n, l.tx);
-            n = next;
-            i += 1;
-        } else {
-            i += 1;
-        }
-    }
-    n
-}
-
 // Party p's own links close.
-pub(crate) fn close_own(m: Monitor, p: usize) -> Monitor
-    requires { ⌜ m .count ≤ 32 ⌝ }
-    ensures { λ r. ⌜ (r ≡ closeOwn m p) × (r .count ≤ 32) ⌝ }
+pub(crate) fn close_own(s: &mut [u32; WORDS], p: usize)
+    requires { ⌜ (view (now s) .count ≤ 32) × (length (now s) ≡ words) ⌝ }
+    ensures { λ _. ⌜ (view (now (s .exit)) ≡ closeOwn (view (now (s .entry))) p) × (length (now (s .exit)) ≡ words) × (view (now (s .exit)) .count ≤ 32) ⌝ }
 {
-    let d = doom_by(m, p);
-    let len = m.count;
-    let blank = Link::fresh();
-    let mut a = [blank; 32];
-    let mut i = 0;
-    let mut j = 0;
+    let from = first_own(&*s, p);
+    let len = count(&*s);
+    let mut i = from;
+    let mut j = from;
     while i < len {
-        let l = m.links[i];
+        let l = link_at(&*s, i);
         let own = is_own_end(p, l);
         if !own {
-            a[j] = l;
+            put_link(&mut *s, j, l);
             i += 1;
             j += 1;
         } else if l.kind == 1 {
             if l.state == 1 {
                 let k = cut_off(l);
-                a[j] = k;
+                put_link(&mut *s, j, k);
+                doom_tx(&mut *s, l.tx);
                 i += 1;
                 j += 1;
             } else {
+                doom_tx(&mut *s, l.tx);
                 i += 1;
             }
         } else if l.state == 2 {
             i += 1;
         } else {
             let k = close_end(l);
-            a[j] = k;
+            put_link(&mut *s, j, k);
             i += 1;
             j += 1;
         }
     }
-    let mut n = d;
-    n.links = a;
-    n.count = j;
-    n
+    keep_first(&mut *s, j);
 }
 
 // Its own transaction, if any, ends without a new one.
-pub(crate) fn end_own(m: Monitor, p: usize) -> Monitor
-    requires { ⌜ (p < 16) × (m .count ≤ 32) ⌝ }
-    ensures { λ r. ⌜ (r ≡ endOwn m p) × (r .count ≤ 32) ⌝ }
+pub(crate) fn end_own(s: &mut [u32; WORDS], p: usize)
+    requires { ⌜ (p < 16) × (view (now s) .count ≤ 32) × (length (now s) ≡ words) ⌝ }
+    ensures { λ _. ⌜ (view (now (s .exit)) ≡ endOwn (view (now (s .entry))) p) × (length (now (s .exit)) ≡ words) × (view (now (s .exit)) .count ≤ 32) ⌝ }
 {
-    let q = m.parties[p];
-    if q.owned == 0 {
-        return m;
+    let t = owned_at(&*s, p);
+    if t == 0 {
+        return;
     }
-    end_tx(m, p)
+    let from = first_of_tx(&*s, t);
+    end_tx(&mut *s, p, from);
 }
 
-pub(crate) fn doom_served(o: u8, t: u32, m: Monitor) -> Monitor
-    ensures { λ r. ⌜ r ≡ doomServed o t m ⌝ }
+pub(crate) fn doom_served(s: &mut [u32; WORDS], o: u32, t: u32)
+    requires { ⌜ length (now s) ≡ words ⌝ }
+    ensures { λ _. ⌜ (view (now (s .exit)) ≡ doomServed o t (view (now (s .entry)))) × (length (now (s .exit)) ≡ words) ⌝ }
 {
     if o == 8 {
-        return m;
+        return;
     }
-    doom_tx(m, t)
+    doom_tx(&mut *s, t);
 }
 
-pub(crate) fn serve_none(m: Monitor, p: usize) -> Monitor
-    requires { ⌜ p < 16 ⌝ }
-    ensures { λ r. ⌜ r ≡ servesNone m p ⌝ }
+pub(crate) fn serve_none(s: &mut [u32; WORDS], p: usize)
+    requires { ⌜ (p < 16) × (length (now s) ≡ words) ⌝ }
+    ensures { λ _. ⌜ (view (now (s .exit)) ≡ servesNone (view (now (s .entry))) p) × (length (now (s .exit)) ≡ words) ⌝ }
 {
-    let mut q = m.parties[p];
+    let mut q = party_at(&*s, p);
     q.served = 0;
-    let mut n = m;
-    n.parties[p] = q;
-    n
+    put_party(&mut *s, p, q);
 }
 
-pub(crate) fn ending_of(o: u8, c: u32) -> u32
+pub(crate) fn ending_of(o: u32, c: u32) -> u32
     ensures { λ r. ⌜ r ≡ endingOf o c ⌝ }
 {
     if o == 2 {
@@ -185,93 +170,93 @@ pub(crate) fn ending_of(o: u8, c: u32) -> u32
 }
 
 // The link d is returned, or goes if the originator's end is closed.
-pub(crate) fn hand_back(m: Monitor, d: u32, o: u8, e: u32) -> Monitor
-    requires { ⌜ m .count ≤ 32 ⌝ }
-    ensures { λ r. ⌜ r ≡ handBack m d o e ⌝ }
+pub(crate) fn hand_back(s: &mut [u32; WORDS], d: u32, o: u32, e: u32)
+    requires { ⌜ (view (now s) .count ≤ 32) × (length (now s) ≡ words) ⌝ }
+    ensures { λ _. ⌜ (view (now (s .exit)) ≡ handBack (view (now (s .entry))) d o e) × (length (now (s .exit)) ≡ words) ⌝ }
 {
-    let mut l = link_of(m, d);
+    let i = place_of(&*s, d);
+    let mut l = live_at(&*s, i);
     if l.attached == 1 {
         l.state = 2;
         l.outcome = o;
         l.ending = e;
-        return change(m, d, l);
+        change_at(&mut *s, i, l);
+        return;
     }
-    remove(m, d)
+    remove_at(&mut *s, i, d);
 }
 
 // Party p, which serves the link d, leaves it with the outcome o and the ending token e.
-pub(crate) fn leave_link(m: Monitor, p: usize, d: u32, o: u8, e: u32) -> Monitor
-    requires { ⌜ (p < 16) × (m .count ≤ 32) ⌝ }
-    ensures { λ r. ⌜ r ≡ leave m p d o e ⌝ }
+pub(crate) fn leave_link(s: &mut [u32; WORDS], p: usize, d: u32, o: u32, e: u32)
+    requires { ⌜ (p < 16) × (view (now s) .count ≤ 32) × (length (now s) ≡ words) ⌝ }
+    ensures { λ _. ⌜ (view (now (s .exit)) ≡ leave (view (now (s .entry))) p d o e) × (length (now (s .exit)) ≡ words) ⌝ }
 {
-    let l = link_of(m, d);
+    let i = place_of(&*s, d);
+    let l = live_at(&*s, i);
     let k = unread_after(o, l);
-    let m1 = change(m, d, k);
-    let m2 = close_own(m1, p);
-    let m3 = end_own(m2, p);
-    let m4 = doom_served(o, l.tx, m3);
-    let m5 = serve_none(m4, p);
-    hand_back(m5, d, o, e)
+    change_at(&mut *s, i, k);
+    close_own(&mut *s, p);
+    end_own(&mut *s, p);
+    doom_served(&mut *s, o, l.tx);
+    serve_none(&mut *s, p);
+    hand_back(&mut *s, d, o, e);
 }
 
-pub(crate) fn wide(o: u8) -> u32
-    ensures { λ r. ⌜ r ≡ o ⌝ }
+// Party p returns with the outcome o and the token c.
+pub(crate) fn return_with(s: &mut [u32; WORDS], p: usize, o: u32, c: u32) -> Told
+    requires { ⌜ (p < 16) × (view (now s) .count ≤ 32) × (length (now s) ≡ words) ⌝ }
+    ensures { λ r. ⌜ (ruledBy r (view (now (s .exit))) ≡ returnWith (view (now (s .entry))) p o c) × (length (now (s .exit)) ≡ words) ⌝ }
 {
-    o as u32
-}
-
-pub(crate) fn return_with(m: Monitor, p: usize, o: u8, c: u32) -> Ruled
-    requires { ⌜ (p < 16) × (m .count ≤ 32) ⌝ }
-    ensures { λ r. ⌜ r ≡ returnWith m p o c ⌝ }
-{
-    let q = m.parties[p];
+    let d = served_at(&*s, p);
     let e = ending_of(o, c);
-    let n = leave_link(m, p, q.served, o, e);
-    accept(n, wide(o))
+    leave_link(&mut *s, p, d, o, e);
+    accept(o)
 }
 
 // Kind 20.
-pub(crate) fn tpreturn(m: Monitor, p: usize, a: u32, c: u32) -> Ruled
-    requires { ⌜ (p < 16) × (m .count ≤ 32) ⌝ }
-    ensures { λ r. ⌜ r ≡ returnOf m p a c ⌝ }
+pub(crate) fn tpreturn(s: &mut [u32; WORDS], p: usize, a: u32, c: u32) -> Told
+    requires { ⌜ (p < 16) × (view (now s) .count ≤ 32) × (length (now s) ≡ words) ⌝ }
+    ensures { λ r. ⌜ (ruledBy r (view (now (s .exit))) ≡ returnOf (view (now (s .entry))) p a c) × (length (now (s .exit)) ≡ words) ⌝ }
 {
-    let q = m.parties[p];
-    if q.served == 0 {
-        return coded(m, 23);
+    let d = served_at(&*s, p);
+    if d == 0 {
+        return coded(23);
     }
     let good = (a == 1) | (a == 2);
     if !good {
-        return coded(m, 22);
+        return coded(22);
     }
-    let l = link_of(m, q.served);
-    let o = outcome_of(m, p, a, c, l);
-    return_with(m, p, o, c)
+    let i = place_of(&*s, d);
+    let l = live_at(&*s, i);
+    let o = outcome_of(&*s, p, a, c, l);
+    return_with(&mut *s, p, o, c)
 }
 
 // What a party that died leaves behind.
-pub(crate) fn die_out(m: Monitor, p: usize) -> Monitor
-    requires { ⌜ (p < 16) × (m .count ≤ 32) ⌝ }
-    ensures { λ r. ⌜ r ≡ diedOut m p ⌝ }
+pub(crate) fn die_out(s: &mut [u32; WORDS], p: usize)
+    requires { ⌜ (p < 16) × (view (now s) .count ≤ 32) × (length (now s) ≡ words) ⌝ }
+    ensures { λ _. ⌜ (view (now (s .exit)) ≡ diedOut (view (now (s .entry))) p) × (length (now (s .exit)) ≡ words) ⌝ }
 {
-    let q = m.parties[p];
-    if q.served == 0 {
-        let n = close_own(m, p);
-        return end_own(n, p);
+    let d = served_at(&*s, p);
+    if d == 0 {
+        close_own(&mut *s, p);
+        end_own(&mut *s, p);
+        return;
     }
-    leave_link(m, p, q.served, 2, 0)
+    leave_link(&mut *s, p, d, 2, 0);
 }
 
 // Kind 21.
-pub(crate) fn terminate(m: Monitor, p: usize) -> Ruled
-    requires { ⌜ (p < 16) × (m .count ≤ 32) ⌝ }
-    ensures { λ r. ⌜ r ≡ terminateOf m p ⌝ }
+pub(crate) fn terminate(s: &mut [u32; WORDS], p: usize) -> Told
+    requires { ⌜ (p < 16) × (view (now s) .count ≤ 32) × (length (now s) ≡ words) ⌝ }
+    ensures { λ r. ⌜ (ruledBy r (view (now (s .exit))) ≡ terminateOf (view (now (s .entry))) p) × (length (now (s .exit)) ≡ words) ⌝ }
 {
-    let q = m.parties[p];
-    let n = die_out(m, p);
+    let d = served_at(&*s, p);
+    die_out(&mut *s, p);
     let none = Party::fresh();
-    let k = set_party(n, p, none);
-    if q.served == 0 {
-        return accept(k, 0);
+    put_party(&mut *s, p, none);
+    if d == 0 {
+        return accept(0);
     }
-    accept(k, 2)
+    accept(2)
 }

@@ -1,16 +1,20 @@
 // A lent list of calls, six numbers to a call, with its list of answers.
 ghost use mathlib.Core.Path.{_≡_};
-ghost use mathlib.Core.List.{List, [], _∷_, _++_};
-ghost use Prim.Native.Nat.{ℕ, _+_, _*_, _<_, _≤_};
-ghost use lib.IntN.{ℤ, pos};
+ghost use mathlib.Core.Bool.{true};
+ghost use mathlib.Core.List.{_++_};
+ghost use Prim.Native.Nat.{_+_, _*_, _<_, _≤_};
 ghost use lib.ListN.{length, take, drop};
+ghost use Rattle.rules.specs.Sound.{sound};
 ghost use Rattle.rules.specs.Run.{callAt, placesOf, ranOf, answersOf, listed, listOf};
+ghost use Rattle.monitor.specs.Words.{words};
+ghost use Rattle.monitor.specs.View.{view};
 use super::Ran;
-use super::sound::is_sound;
+use super::sound::is_sound_in;
 use super::steps::call_on;
+use super::words::Store;
+use super::words::WORDS;
 use rules::Answer;
 use rules::Call;
-use rules::Monitor;
 
 // The call that starts at a place of the list.
 pub(crate) fn call_at(calls: &[u32], at: usize) -> Call
@@ -42,52 +46,44 @@ pub(crate) fn put(out: &mut [i64], at: usize, r: Answer)
 }
 
 // n calls, one after the other.
-pub(crate) fn run(m: Monitor, calls: &[u32], out: &mut [i64], n: usize) -> Monitor
-    requires { ⌜ (m .count ≤ 32) × (n * 6 ≤ length (now calls)) × (n * 6 ≤ length (now out)) ⌝ }
-    ensures { λ r. ⌜ (r ≡ ranOf n m (now (calls .entry))) × (now (out .exit) ≡ answersOf n m (now (calls .entry)) ++ drop (n * 6) (now (out .entry))) ⌝ }
+pub(crate) fn run(s: &mut [u32; WORDS], calls: &[u32], out: &mut [i64], n: usize)
+    requires { ⌜ (sound (view (now s)) ≡ true) × (length (now s) ≡ words) × (n * 6 ≤ length (now calls)) × (n * 6 ≤ length (now out)) ⌝ }
+    ensures { λ _. ⌜ (view (now (s .exit)) ≡ ranOf n (view (now (s .entry))) (now (calls .entry))) × (now (out .exit) ≡ answersOf n (view (now (s .entry))) (now (calls .entry)) ++ drop (n * 6) (now (out .entry))) × (length (now (s .exit)) ≡ words) ⌝ }
 {
-    let mut cur = m;
     let mut i = 0;
     while i < n {
         let at = i * 6;
         let call = call_at(calls, at);
-        let s = call_on(cur, call);
-        let r = s.answer;
+        let r = call_on(&mut *s, call);
         put(&mut *out, at, r);
-        let next = s.monitor;
-        cur = next;
         i += 1;
     }
-    cur
+}
+
+// A whole list, on whatever record is lent: 0, 17, 16 or 19.
+pub(crate) fn run_on(s: &mut [u32; WORDS], calls: &[u32], answers: &mut [i64]) -> i64
+    requires { ⌜ length (now s) ≡ words ⌝ }
+    ensures { λ r. ⌜ (listed r (view (now (s .exit))) (now (answers .exit)) ≡ listOf (view (now (s .entry))) (now (calls .entry)) (now (answers .entry))) × (length (now (s .exit)) ≡ words) ⌝ }
+{
+    if calls.len() % 6 != 0 {
+        return 17;
+    }
+    if answers.len() < calls.len() {
+        return 16;
+    }
+    let ok = is_sound_in(&*s);
+    if !ok {
+        return 19;
+    }
+    let n = calls.len() / 6;
+    run(&mut *s, calls, &mut *answers, n);
+    0
 }
 
 // A whole list.
-pub fn run_list(m: Monitor, calls: &[u32], answers: &mut [i64]) -> Ran
-    ensures { λ r. ⌜ listed (r .code) (r .monitor) (now (answers .exit)) ≡ listOf m (now (calls .entry)) (now (answers .entry)) ⌝ }
+pub fn run_list(mut m: Store, calls: &[u32], answers: &mut [i64]) -> Ran
+    ensures { λ r. ⌜ listed (r .code) (view (r .store .words)) (now (answers .exit)) ≡ listOf (view (m .words)) (now (calls .entry)) (now (answers .entry)) ⌝ }
 {
-    if calls.len() % 6 != 0 {
-        return Ran {
-            monitor: m,
-            code: 17,
-        };
-    }
-    if answers.len() < calls.len() {
-        return Ran {
-            monitor: m,
-            code: 16,
-        };
-    }
-    let ok = is_sound(m);
-    if !ok {
-        return Ran {
-            monitor: m,
-            code: 19,
-        };
-    }
-    let n = calls.len() / 6;
-    let after = run(m, calls, &mut *answers, n);
-    Ran {
-        monitor: after,
-        code: 0,
-    }
+    let code = run_on(&mut m.words, calls, &mut *answers);
+    Ran { store: m, code }
 }

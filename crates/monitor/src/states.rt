@@ -1,11 +1,16 @@
 // The TX state table: nine calls by five states.
 ghost use mathlib.Core.Path.{_≡_};
-ghost use Prim.Native.Nat.{ℕ, _+_, _<_, _≤_};
+ghost use Prim.Native.Nat.{_+_, _<_, _≤_};
 ghost use lib.Dec.{eqb};
+ghost use lib.ListN.{length};
 ghost use Rattle.rules.specs.Choice.{pick};
 ghost use Rattle.rules.specs.States.{stateOf, nextOf, inState, entered};
+ghost use Rattle.monitor.specs.Words.{words};
+ghost use Rattle.monitor.specs.View.{view};
 use super::transaction::tx_of;
-use rules::Monitor;
+use super::words::WORDS;
+use super::words::party_at;
+use super::words::put_party;
 use rules::Party;
 
 // The next states, a row of the states 0 to 4 for each of the calls 1 to 9.
@@ -60,15 +65,15 @@ const NEXT: [u8; 45] = [
 // A blank of the table.
 pub const BLANK: u8 = 9;
 
-pub(crate) fn state_of(m: Monitor, p: usize) -> usize
-    requires { ⌜ (p < 16) × (m .count ≤ 32) ⌝ }
-    ensures { λ r. ⌜ (r ≡ stateOf m p) × (r < 5) ⌝ }
+pub(crate) fn state_of(s: &[u32; WORDS], p: usize) -> usize
+    requires { ⌜ (p < 16) × (view (now s) .count ≤ 32) ⌝ }
+    ensures { λ r. ⌜ (r ≡ stateOf (view (now (s .entry))) p) × (r < 5) ⌝ }
 {
-    let q = m.parties[p];
+    let q = party_at(s, p);
     if q.opened != 1 {
         return 0;
     }
-    let t = tx_of(m, p);
+    let t = tx_of(s, p);
     if t == 0 {
         if q.control == 1 {
             return 2;
@@ -89,15 +94,15 @@ pub(crate) fn next_state(k: usize, s: usize) -> u8
 }
 
 // The next state of party p's call of kind k.
-pub(crate) fn state_after(m: Monitor, p: usize, k: usize) -> u8
-    requires { ⌜ (p < 16) × (m .count ≤ 32) × (1 ≤ k) × (k ≤ 9) ⌝ }
-    ensures { λ r. ⌜ (r ≡ nextOf k (stateOf m p)) × (r ≤ 9) ⌝ }
+pub(crate) fn state_after(s: &[u32; WORDS], p: usize, k: usize) -> u8
+    requires { ⌜ (p < 16) × (view (now s) .count ≤ 32) × (1 ≤ k) × (k ≤ 9) ⌝ }
+    ensures { λ r. ⌜ (r ≡ nextOf k (stateOf (view (now (s .entry))) p)) × (r ≤ 9) ⌝ }
 {
-    let s = state_of(m, p);
-    next_state(k, s)
+    let before = state_of(s, p);
+    next_state(k, before)
 }
 
-pub(crate) fn opened_in(s: u8) -> u8
+pub(crate) fn opened_in(s: u8) -> u32
     ensures { λ r. ⌜ r ≡ pick (eqb s 0) 0 1 ⌝ }
 {
     if s == 0 {
@@ -106,7 +111,7 @@ pub(crate) fn opened_in(s: u8) -> u8
     1
 }
 
-pub(crate) fn control_in(s: u8) -> u8
+pub(crate) fn control_in(s: u8) -> u32
     ensures { λ r. ⌜ r ≡ pick (eqb s 2) 1 (pick (eqb s 4) 1 0) ⌝ }
 {
     if s == 2 {
@@ -130,13 +135,12 @@ pub(crate) fn in_state(q: Party, s: u8) -> Party
     k
 }
 
-// Party p enters the state s.
-pub(crate) fn enter(mut m: Monitor, p: usize, s: u8) -> Monitor
-    requires { ⌜ p < 16 ⌝ }
-    ensures { λ r. ⌜ r ≡ entered m p s ⌝ }
+// Party p enters a state.
+pub(crate) fn enter(s: &mut [u32; WORDS], p: usize, state: u8)
+    requires { ⌜ (p < 16) × (length (now s) ≡ words) ⌝ }
+    ensures { λ _. ⌜ (view (now (s .exit)) ≡ entered (view (now (s .entry))) p state) × (length (now (s .exit)) ≡ words) ⌝ }
 {
-    let q = m.parties[p];
-    let k = in_state(q, s);
-    m.parties[p] = k;
-    m
+    let q = party_at(&*s, p);
+    let k = in_state(q, state);
+    put_party(&mut *s, p, k);
 }

@@ -1,8 +1,14 @@
 // One call: the questions before the kind's, the clock, the kind's rule, the answer's last field.
 ghost use mathlib.Core.Path.{_≡_};
-ghost use Prim.Native.Nat.{ℕ, _<_, _≤_};
-ghost use lib.IntN.{ℤ};
-ghost use Rattle.rules.specs.Step.{ruleOf, laterOf, advanced, told, turnedDown, callOf, stepOf};
+ghost use mathlib.Core.Bool.{true};
+ghost use Prim.Native.Nat.{_<_, _≤_};
+ghost use lib.ListN.{length};
+ghost use Rattle.rules.specs.Sound.{sound};
+ghost use Rattle.rules.specs.Step.{ruleOf, laterOf, advanced, told, callOf, stepOf};
+ghost use Rattle.monitor.specs.Words.{words};
+ghost use Rattle.monitor.specs.View.{view, ruledBy, stepped, codeAnswer};
+use super::Stepped;
+use super::Told;
 use super::conversations::tpdiscon;
 use super::conversations::tprecv;
 use super::conversations::tpsend;
@@ -16,7 +22,7 @@ use super::returns::terminate;
 use super::returns::tpreturn;
 use super::services::tpadvertise;
 use super::services::tpunadvertise;
-use super::sound::is_sound;
+use super::sound::is_sound_in;
 use super::transaction::tx_of;
 use super::tx::tx_begin;
 use super::tx::tx_close;
@@ -27,40 +33,41 @@ use super::tx::tx_rollback;
 use super::tx::tx_set_commit_return;
 use super::tx::tx_set_transaction_control;
 use super::tx::tx_set_transaction_timeout;
+use super::words::Store;
+use super::words::WORDS;
+use super::words::clock;
+use super::words::set_clock;
 use rules::Answer;
 use rules::Call;
-use rules::Monitor;
-use rules::Ruled;
-use rules::Stepped;
 
 // Each kind decides by its number.
-pub(crate) fn rule(m: Monitor, p: usize, k: u32, a: u32, b: u32, c: u32) -> Ruled
-    requires { ⌜ (p < 16) × (m .count ≤ 32) ⌝ }
-    ensures { λ r. ⌜ r ≡ ruleOf m p k a b c ⌝ }
+pub(crate) fn rule(s: &mut [u32; WORDS], p: usize, k: u32, a: u32, b: u32, c: u32) -> Told
+    requires { ⌜ (p < 16) × (view (now s) .count ≤ 32) × (length (now s) ≡ words) ⌝ }
+    ensures { λ r. ⌜ (ruledBy r (view (now (s .exit))) ≡ ruleOf (view (now (s .entry))) p k a b c) × (length (now (s .exit)) ≡ words) ⌝ }
 {
     match k {
-        1 => tx_open(m, p),
-        2 => tx_close(m, p),
-        3 => tx_begin(m, p),
-        4 => tx_commit(m, p),
-        5 => tx_rollback(m, p),
-        6 => tx_info(m, p),
-        7 => tx_set_commit_return(m, p, a),
-        8 => tx_set_transaction_control(m, p, a),
-        9 => tx_set_transaction_timeout(m, p, a),
-        10 => tpadvertise(m, p, a),
-        11 => tpunadvertise(m, p, a),
-        12 => tpacall(m, p, a, b, c),
-        13 => tpconnect(m, p, a, b, c),
-        14 => take(m, p),
-        15 => tpgetrply(m, p, a),
-        16 => tpcancel(m, p, a),
-        17 => tpsend(m, p, a, b, c),
-        18 => tprecv(m, p, a),
-        19 => tpdiscon(m, p, a),
-        20 => tpreturn(m, p, a, c),
-        21 => terminate(m, p),
-        0 | 22..=4294967295 => coded(m, 20),
+        1 => tx_open(&mut *s, p),
+        2 => tx_close(&mut *s, p),
+        3 => tx_begin(&mut *s, p),
+        4 => tx_commit(&mut *s, p),
+        5 => tx_rollback(&mut *s, p),
+        6 => tx_info(&*s, p),
+        7 => tx_set_commit_return(&*s, p, a),
+        8 => tx_set_transaction_control(&mut *s, p, a),
+        9 => tx_set_transaction_timeout(&mut *s, p, a),
+        10 => tpadvertise(&mut *s, p, a),
+        11 => tpunadvertise(&mut *s, p, a),
+        12 => tpacall(&mut *s, p, a, b, c),
+        13 => tpconnect(&mut *s, p, a, b, c),
+        14 => take(&mut *s, p),
+        15 => tpgetrply(&mut *s, p, a),
+        16 => tpcancel(&mut *s, p, a),
+        17 => tpsend(&mut *s, p, a, b, c),
+        18 => tprecv(&mut *s, p, a),
+        19 => tpdiscon(&mut *s, p, a),
+        20 => tpreturn(&mut *s, p, a, c),
+        21 => terminate(&mut *s, p),
+        0 | 22..=4294967295 => coded(20),
     }
 }
 
@@ -74,71 +81,79 @@ pub(crate) fn later(a: u32, b: u32) -> u32
 }
 
 // The clock becomes the greater of its own and the call's.
-pub(crate) fn advance(mut m: Monitor, t: u32) -> Monitor
-    ensures { λ r. ⌜ r ≡ advanced m t ⌝ }
+pub(crate) fn advance(s: &mut [u32; WORDS], t: u32)
+    requires { ⌜ length (now s) ≡ words ⌝ }
+    ensures { λ _. ⌜ (view (now (s .exit)) ≡ advanced (view (now (s .entry))) t) × (length (now (s .exit)) ≡ words) ⌝ }
 {
-    let now = later(m.clock, t);
-    m.clock = now;
-    m
+    let before = clock(&*s);
+    let after = later(before, t);
+    set_clock(&mut *s, after);
 }
 
-// What a rule gives, with the caller's T afterwards.
-pub(crate) fn tell(r: Ruled, p: usize) -> Stepped
-    requires { ⌜ (p < 16) × (r .monitor .count ≤ 32) ⌝ }
-    ensures { λ s. ⌜ s ≡ told r p ⌝ }
+// What a rule tells, with the caller's T afterwards.
+pub(crate) fn tell(s: &[u32; WORDS], r: Told, p: usize) -> Answer
+    requires { ⌜ (p < 16) × (view (now s) .count ≤ 32) ⌝ }
+    ensures { λ a. ⌜ stepped a (view (now (s .entry))) ≡ told (ruledBy r (view (now (s .entry)))) p ⌝ }
 {
-    let m = r.monitor;
-    let t = tx_of(m, p);
-    let answer = Answer {
+    let t = tx_of(s, p);
+    Answer {
         code: r.code,
         value: r.value,
         event: r.event,
         token: r.token,
         service: r.service,
         tx: t,
-    };
-    Stepped { monitor: m, answer }
+    }
 }
 
-pub(crate) fn turn_down(m: Monitor, code: i64) -> Stepped
-    ensures { λ s. ⌜ s ≡ turnedDown m code ⌝ }
+// The answer to questions 19, 20 and 21.
+pub(crate) fn turn_down(code: i64) -> Answer
+    ensures { λ r. ⌜ r ≡ codeAnswer code ⌝ }
 {
-    let answer = Answer {
+    Answer {
         code,
         value: 0,
         event: 0,
         token: 0,
         service: 0,
         tx: 0,
-    };
-    Stepped { monitor: m, answer }
+    }
 }
 
-// A call on a record that is known to be sound.
-pub(crate) fn call_on(m: Monitor, c: Call) -> Stepped
-    requires { ⌜ m .count ≤ 32 ⌝ }
-    ensures { λ r. ⌜ (r ≡ callOf m c) × (r .monitor .count ≤ 32) ⌝ }
+// A call on a sound record, which leaves a sound one.
+pub(crate) fn call_on(s: &mut [u32; WORDS], c: Call) -> Answer
+    requires { ⌜ (sound (view (now s)) ≡ true) × (length (now s) ≡ words) ⌝ }
+    ensures { λ r. ⌜ (stepped r (view (now (s .exit))) ≡ callOf (view (now (s .entry))) c) × (sound (view (now (s .exit))) ≡ true) × (length (now (s .exit)) ≡ words) ⌝ }
 {
     let known = (1 <= c.kind) & (c.kind <= 21);
     if !known {
-        return turn_down(m, 20);
+        return turn_down(20);
     }
     if c.party > 15 {
-        return turn_down(m, 21);
+        return turn_down(21);
     }
-    let n = advance(m, c.clock);
+    advance(&mut *s, c.clock);
     let p = c.party as usize;
-    let r = rule(n, p, c.kind, c.a, c.b, c.c);
-    tell(r, p)
+    let r = rule(&mut *s, p, c.kind, c.a, c.b, c.c);
+    tell(&*s, r, p)
+}
+
+// One call, on whatever record is lent.
+pub(crate) fn step_on(s: &mut [u32; WORDS], call: Call) -> Answer
+    requires { ⌜ length (now s) ≡ words ⌝ }
+    ensures { λ r. ⌜ (stepped r (view (now (s .exit))) ≡ stepOf (view (now (s .entry))) call) × (length (now (s .exit)) ≡ words) ⌝ }
+{
+    let ok = is_sound_in(&*s);
+    if !ok {
+        return turn_down(19);
+    }
+    call_on(&mut *s, call)
 }
 
 // One call.
-pub fn step(m: Monitor, call: Call) -> Stepped
-    ensures { λ r. ⌜ r ≡ stepOf m call ⌝ }
+pub fn step(mut m: Store, call: Call) -> Stepped
+    ensures { λ r. ⌜ stepped (r .answer) (view (r .store .words)) ≡ stepOf (view (m .words)) call ⌝ }
 {
-    let ok = is_sound(m);
-    if !ok {
-        return turn_down(m, 19);
-    }
-    call_on(m, call)
+    let answer = step_on(&mut m.words, call);
+    Stepped { store: m, answer }
 }

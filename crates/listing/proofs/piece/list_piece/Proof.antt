@@ -1,6 +1,6 @@
 -- `listing::piece::list_piece` meets its contract.
 -- Assumes nothing.
-use Prim.Native.Nat.{_+_, _-_, _≤_}
+use Prim.Native.Nat.{_+_, _≤_}
 use mathlib.Core.Path.{_≡_, ap, sym, _∙_}
 use native.Mathlib.Omega.{arith}
 use borrow.Author.Needs.{needs}
@@ -13,6 +13,7 @@ use Rattle.listing.specs.Piece.{shown}
 use Prim.Native.Nat.{_/_}
 use lib.Seq.{sets}
 use Rattle.monitor.specs.File.{Passed, passed}
+use Rattle.monitor.specs.View.{view}
 use Rattle.monitor.proofs.Calls.{piece-few}
 use Rattle.listing.specs.Text.{linesOf, refusalLine}
 use Rattle.listing.proofs.Digits.{Puts, puts-then}
@@ -33,14 +34,14 @@ put-lines-requires : tie.Need-put-lines-requires
 put-lines-requires c κs =
     let a = c .before .before .before .before .before .before .before .before .before .before .args in
     let r = c .before .before .before .before .run-piece in
-    let n : r .result .calls ≤ length (a .answers .now) / 6 = subst (λ (p : Passed). p .calls ≤ length (a .answers .now) / 6) (sym (r .ensures)) (piece-few (a .m) (a .input .now) (a .last) (a .answers .now)) in
+    let n : r .result .calls ≤ length (a .answers .now) / 6 = subst (λ (p : Passed). p .calls ≤ length (a .answers .now) / 6) (sym (r .ensures)) (piece-few (view (a .m .words)) (a .input .now) (a .last) (a .answers .now)) in
     (omega (arith, c .before .before .before .before .before .before .if2 .left, c .before .before .before .before .before .before .before .if1 .left), omega (arith, r .kept .1 .1 .1 .0))
 
 put-refusal-requires : tie.Need-put-refusal-requires
 put-refusal-requires c κs =
     let a = c .before .before .before .before .before .before .before .before .before .before .before .before .before .before .args in
     let r = c .before .before .before .before .before .before .before .before .run-piece in
-    let n : r .result .calls ≤ length (a .answers .now) / 6 = subst (λ (p : Passed). p .calls ≤ length (a .answers .now) / 6) (sym (r .ensures)) (piece-few (a .m) (a .input .now) (a .last) (a .answers .now)) in
+    let n : r .result .calls ≤ length (a .answers .now) / 6 = subst (λ (p : Passed). p .calls ≤ length (a .answers .now) / 6) (sym (r .ensures)) (piece-few (view (a .m .words)) (a .input .now) (a .last) (a .answers .now)) in
     omega (arith, c .before .before .before .before .before .before .before .before .before .before .if2 .left, c .before .before .before .before .before .before .before .before .before .before .before .if1 .left, c .before .before .before .put-lines .kept .0, c .before .before .before .put-lines .ensures .0, lines-short (r .result .calls) (r .last .1 .1 .1 .0))
 
 same-length : tie.Need-same-length
@@ -60,9 +61,9 @@ returns-3 c =
     let second : Puts (l .last .0) (l .result) (refusalLine (r .result .code)) (e .last .0) (e .result) =
     record { ends = e .ensures .0 ∙ ap (λ (z : ℤ). l .result + length (refusalLine z)) s; makes = e .ensures .1 ∙ ap (λ (z : ℤ). sets (l .last .0) (l .result) (refusalLine z)) s }
     in
-    ap (λ (z : ℤ). shown (r .result .monitor) (r .result .used) (e .result) z (r .last .1 .1 .1 .0) (e .last .0)) s
-    ∙ listed-enough (a .m) (a .input .now) (a .last) (a .answers .now) (a .out .now) (omega (arith, c .before .before .before .before .before .before .before .before .before .before .before .before .before .before .if2 .left, c .before .before .before .before .before .before .before .before .before .before .before .before .before .before .before .if1 .left))
-    (passed (r .result .monitor) (r .result .code) (r .result .calls) (r .result .used) (r .last .1 .1 .1 .0)) (r .ensures) _ _ (puts-then first second)
+    ap (λ (z : ℤ). shown (view (r .result .store .words)) (r .result .used) (e .result) z (r .last .1 .1 .1 .0) (e .last .0)) s
+    ∙ listed-enough (view (a .m .words)) (a .input .now) (a .last) (a .answers .now) (a .out .now) (omega (arith, c .before .before .before .before .before .before .before .before .before .before .before .before .before .before .if2 .left, c .before .before .before .before .before .before .before .before .before .before .before .before .before .before .before .if1 .left))
+    (passed (view (r .result .store .words)) (r .result .code) (r .result .calls) (r .result .used) (r .last .1 .1 .1 .0)) (r .ensures) _ _ (puts-then first second)
 
 pub list-piece-spec : {M : Type 1} → statement M
 list-piece-spec =

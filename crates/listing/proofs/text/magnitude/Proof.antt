@@ -1,6 +1,5 @@
 -- `listing::text::magnitude` meets its contract.
 -- Assumes nothing.
-use Prim.Native.Nat.{_-_}
 use native.Mathlib.Omega.{arith}
 use Rattle.listing.proofs.Signs.{negated-fits, negated-raw, magnitude-more, plain-raw, magnitude-plain}
 use Rattle.listing.proofs.text.magnitude.Statement.{statement}

@@ -1,23 +1,27 @@
 -- `conversations::send_on` meets its contract.
--- Assumes nothing.
-use Rattle.monitor.proofs.Usual.{_≡_, ap, sym, _∙_, Bool, true, false, not, _&&_, arith, needs, lt-ltb, le-ltb, le-leb, lt-leb, eqb, not-true, not-false, Monitor, pick-true, pick-false, valued, changed, expired, anyEnd, hearsCut, hearsReturn, holds, sendOn}
+use Rattle.monitor.proofs.Usual.{_≡_, ap, ap₂, sym, _∙_, true, not, _&&_, arith, needs, eqb, leb, lt-ltb, le-ltb, le-leb, lt-leb, not-true, not-false, Ruled, pick, pick-true, pick-false, noSuchEnd, timedOut, ask, expired, anyEnd, hearsCut, hearsReturn, holds, sendOn, view, ruledBy}
+use Rattle.rules.specs.Codes.{badArgument}
+use Rattle.monitor.proofs.Talking.{refused, changes}
 use Rattle.monitor.proofs.conversations.send_on.Statement.{statement}
 use Rattle.monitor.proofs.conversations.send_on.Tie as tie
 
 known : (c : tie.Else1) → anyEnd (c .before .before .args .p) (c .before .before .args .l) ≡ true
 known c = sym (c .before .is-any-end .ensures) ∙ not-false _ (c .if1 .left)
 
-in-time : (c : tie.Else3) → not (expired (c .before .before .before .before .before .args .m) (c .before .before .before .before .before .args .l .tx)) ≡ true
-in-time c = ap not (sym (c .before .is-expired .ensures) ∙ c .if3 .left)
+-- the questions up to the cut are passed: the rule goes on with r
+talks : (c : tie.Else4) (x r : Ruled) → let a = c .before .before .before .before .before .before .before .before .args in let m = view (a .s .now) in ask m (anyEnd (a .p) (a .l)) noSuchEnd (ask m (leb (a .b) 1) badArgument (ask m (not (expired m (a .l .tx))) timedOut (pick (hearsCut (a .p) (a .l)) x r))) ≡ r
+talks c x r =
+    pick-true _ _ _ (known (c .before .before .before .before .before .before))
+    ∙ pick-true _ _ _ (le-leb _ _ (c .before .before .before .before .before .if2 .left))
+    ∙ pick-true _ _ _ (ap not (sym (c .before .before .before .is-expired .ensures) ∙ c .before .before .if3 .left))
+    ∙ pick-false _ _ _ (sym (c .before .hears-cut .ensures) ∙ c .if4 .left)
 
-uncut : (c : tie.Else4) → hearsCut (c .before .before .before .before .before .before .before .args .p) (c .before .before .before .before .before .before .before .args .l) ≡ false
-uncut c = sym (c .before .hears-cut .ensures) ∙ c .if4 .left
+-- the two questions that the code asks with an answer of its own
+failing : (c : tie.After-hears-return) → let a = c .before .before .before .before .before .before .before .before .before .args in (hearsReturn (a .p) (a .l) && not (eqb (a .l .outcome) 8)) ≡ (c .hears-return .result && not (eqb (a .l .outcome) 8))
+failing c = rw (c .hears-return .ensures)
 
-unfailed : (c : tie.Else5) → (hearsReturn (c .before .before .before .before .before .before .before .before .before .before .args .p) (c .before .before .before .before .before .before .before .before .before .before .args .l) && not (eqb (c .before .before .before .before .before .before .before .before .before .before .args .l .outcome) 8)) ≡ false
-unfailed c = ap (λ (r : Bool). r && not (eqb (c .before .before .before .before .before .before .before .before .before .before .args .l .outcome) 8)) (sym (c .before .before .hears-return .ensures)) ∙ c .if5 .left
-
-may-send : (c : tie.Else6) → (holds (c .before .before .before .before .before .before .before .before .before .before .before .before .before .args .p) (c .before .before .before .before .before .before .before .before .before .before .before .before .before .args .l) && eqb (c .before .before .before .before .before .before .before .before .before .before .before .before .before .args .l .granting) 0) ≡ true
-may-send c = ap (λ (h : Bool). h && eqb (c .before .before .before .before .before .before .before .before .before .before .before .before .before .args .l .granting) 0) (sym (c .before .before .is-holder .ensures)) ∙ not-false _ (c .if6 .left)
+holding : (c : tie.After-is-holder) → let a = c .before .before .before .before .before .before .before .before .before .before .before .before .args in (holds (a .p) (a .l) && eqb (a .l .granting) 0) ≡ (c .is-holder .result && eqb (a .l .granting) 0)
+holding c = rw (c .is-holder .ensures)
 
 is-any-end-requires : tie.Need-is-any-end-requires
 is-any-end-requires c κs = search needs
@@ -27,20 +31,14 @@ coded-requires c κs = search needs
 
 returns : tie.Need-returns
 unfolding sendOn
-returns c =
-    c .coded .ensures
-    ∙ sym (pick-false _ _ _ (sym (c .before .before .is-any-end .ensures) ∙ not-true _ (c .before .if1 .taken)))
+returns c = (refused (c .coded .ensures) (pick-false _ _ _ (sym (c .before .before .is-any-end .ensures) ∙ not-true _ (c .before .if1 .taken))), c .before .before .before .pre .1)
 
 coded-requires-2 : tie.Need-coded-requires-2
 coded-requires-2 c κs = search needs
 
 returns-2 : tie.Need-returns-2
 unfolding sendOn
-returns-2 c =
-    c .coded2 .ensures
-    ∙ sym
-    (pick-true _ _ _ (known (c .before .before))
-    ∙ pick-false _ _ _ (lt-leb _ _ (c .before .if2 .taken)))
+returns-2 c = (refused (c .coded2 .ensures) (pick-true _ _ _ (known (c .before .before)) ∙ pick-false _ _ _ (lt-leb _ _ (c .before .if2 .taken))), c .before .before .before .before .pre .1)
 
 is-expired-requires : tie.Need-is-expired-requires
 is-expired-requires c κs = search needs
@@ -50,12 +48,13 @@ coded-requires-3 c κs = search needs
 
 returns-3 : tie.Need-returns-3
 unfolding sendOn
-returns-3 c =
-    c .coded3 .ensures
-    ∙ sym
-    (pick-true _ _ _ (known (c .before .before .before .before))
-    ∙ pick-true _ _ _ (le-leb _ _ (c .before .before .before .if2 .left))
-    ∙ pick-false _ _ _ (ap not (sym (c .before .before .is-expired .ensures) ∙ c .before .if3 .taken)))
+returns-3 c = (
+  refused (c .coded3 .ensures)
+      (pick-true _ _ _ (known (c .before .before .before .before .before))
+      ∙ pick-true _ _ _ (le-leb _ _ (c .before .before .before .before .if2 .left))
+      ∙ pick-false _ _ _ (ap not (sym (c .before .before .is-expired .ensures) ∙ c .before .if3 .taken))),
+  c .before .before .before .before .before .before .before .pre .1,
+)
 
 hears-cut-requires : tie.Need-hears-cut-requires
 hears-cut-requires c κs = search needs
@@ -65,13 +64,15 @@ tell-cut-requires c κs = search needs
 
 returns-4 : tie.Need-returns-4
 unfolding sendOn
-returns-4 c =
-    c .tell-cut .ensures
-    ∙ sym
-    (pick-true _ _ _ (known (c .before .before .before .before .before .before))
-    ∙ pick-true _ _ _ (le-leb _ _ (c .before .before .before .before .before .if2 .left))
-    ∙ pick-true _ _ _ (in-time (c .before .before .before))
-    ∙ pick-true _ _ _ (sym (c .before .before .hears-cut .ensures) ∙ c .before .if4 .taken))
+returns-4 c = (
+  c .tell-cut .ensures .0
+      ∙ sym
+      (pick-true _ _ _ (known (c .before .before .before .before .before .before .before .before))
+      ∙ pick-true _ _ _ (le-leb _ _ (c .before .before .before .before .before .before .before .if2 .left))
+      ∙ pick-true _ _ _ (ap not (sym (c .before .before .before .before .before .is-expired .ensures) ∙ c .before .before .before .before .if3 .left))
+      ∙ pick-true _ _ _ (sym (c .before .before .before .hears-cut .ensures) ∙ c .before .before .if4 .taken)),
+  c .tell-cut .ensures .1,
+)
 
 hears-return-requires : tie.Need-hears-return-requires
 hears-return-requires c κs = search needs
@@ -81,14 +82,10 @@ tell-return-requires c κs = search needs
 
 returns-5 : tie.Need-returns-5
 unfolding sendOn
-returns-5 c =
-    c .tell-return .ensures
-    ∙ sym
-    (pick-true _ _ _ (known (c .before .before .before .before .before .before .before .before .before))
-    ∙ pick-true _ _ _ (le-leb _ _ (c .before .before .before .before .before .before .before .before .if2 .left))
-    ∙ pick-true _ _ _ (in-time (c .before .before .before .before .before .before))
-    ∙ pick-false _ _ _ (uncut (c .before .before .before .before))
-    ∙ pick-true _ _ _ (ap (λ (r : Bool). r && not (eqb (c .before .before .before .before .before .before .before .before .before .before .before .args .l .outcome) 8)) (sym (c .before .before .before .hears-return .ensures)) ∙ c .before .if5 .taken))
+returns-5 c = (
+  c .tell-return .ensures .0 ∙ sym (talks (c .before .before .before .before .before) _ _ ∙ pick-true _ _ _ (failing (c .before .before .before .before) ∙ c .before .before .if5 .taken)),
+  c .tell-return .ensures .1,
+)
 
 is-holder-requires : tie.Need-is-holder-requires
 is-holder-requires c κs = search needs
@@ -98,37 +95,37 @@ coded-requires-4 c κs = search needs
 
 returns-6 : tie.Need-returns-6
 unfolding sendOn
-returns-6 c =
-    c .coded4 .ensures
-    ∙ sym
-    (pick-true _ _ _ (known (c .before .before .before .before .before .before .before .before .before .before .before .before))
-    ∙ pick-true _ _ _ (le-leb _ _ (c .before .before .before .before .before .before .before .before .before .before .before .if2 .left))
-    ∙ pick-true _ _ _ (in-time (c .before .before .before .before .before .before .before .before .before))
-    ∙ pick-false _ _ _ (uncut (c .before .before .before .before .before .before .before))
-    ∙ pick-false _ _ _ (unfailed (c .before .before .before .before))
-    ∙ pick-false _ _ _ (ap (λ (h : Bool). h && eqb (c .before .before .before .before .before .before .before .before .before .before .before .before .before .before .args .l .granting) 0) (sym (c .before .before .before .is-holder .ensures)) ∙ not-true _ (c .before .if6 .taken)))
+returns-6 c = (
+  refused (c .coded4 .ensures)
+      (talks (c .before .before .before .before .before .before .before) _ _
+      ∙ pick-false _ _ _ (failing (c .before .before .before .before .before .before) ∙ c .before .before .before .before .if5 .left)
+      ∙ pick-false _ _ _ (holding (c .before .before .before) ∙ not-true _ (c .before .if6 .taken))),
+  c .before .before .before .before .before .before .before .before .before .before .before .before .before .before .before .pre .1,
+)
 
 coded-requires-5 : tie.Need-coded-requires-5
 coded-requires-5 c κs = search needs
 
 returns-7 : tie.Need-returns-7
 unfolding sendOn
-returns-7 c =
-    c .coded5 .ensures
-    ∙ sym
-    (pick-true _ _ _ (known (c .before .before .before .before .before .before .before .before .before .before .before .before .before .before))
-    ∙ pick-true _ _ _ (le-leb _ _ (c .before .before .before .before .before .before .before .before .before .before .before .before .before .if2 .left))
-    ∙ pick-true _ _ _ (in-time (c .before .before .before .before .before .before .before .before .before .before .before))
-    ∙ pick-false _ _ _ (uncut (c .before .before .before .before .before .before .before .before .before))
-    ∙ pick-false _ _ _ (unfailed (c .before .before .before .before .before .before))
-    ∙ pick-true _ _ _ (may-send (c .before .before .before))
-    ∙ pick-false _ _ _ (le-ltb _ _ (c .before .if7 .taken)))
+returns-7 c = (
+  refused (c .coded5 .ensures)
+      (talks (c .before .before .before .before .before .before .before .before .before) _ _
+      ∙ pick-false _ _ _ (failing (c .before .before .before .before .before .before .before .before) ∙ c .before .before .before .before .before .before .if5 .left)
+      ∙ pick-true _ _ _ (holding (c .before .before .before .before .before) ∙ not-false _ (c .before .before .before .if6 .left))
+      ∙ pick-false _ _ _ (le-ltb _ _ (c .before .if7 .taken))),
+  c .before .before .before .before .before .before .before .before .before .before .before .before .before .before .before .before .before .pre .1,
+)
 
 with-sent-requires : tie.Need-with-sent-requires
 with-sent-requires c κs = search needs
 
-change-requires : tie.Need-change-requires
-change-requires c κs = omega (arith, c .before .before .before .before .before .before .before .before .before .before .before .before .before .before .before .before .pre)
+put-link-requires : tie.Need-put-link-requires
+put-link-requires c κs =
+    let s = c .before .before .before .before .before .before .before .before .before .before .before .before .before .before .before .before .before .before in
+    let h = s .pre .0 in
+    let b = s .pre .3 in
+    (omega (arith, h, b), s .pre .1)
 
 accept-requires : tie.Need-accept-requires
 accept-requires c κs = search needs
@@ -136,16 +133,16 @@ accept-requires c κs = search needs
 returns-8 : tie.Need-returns-8
 unfolding sendOn
 returns-8 c =
-    let a = c .before .before .before .before .before .before .before .before .before .before .before .before .before .before .before .before .before .before .args in
-    c .accept .ensures ∙ ap (λ (n : Monitor). valued n 0) (c .before .change .ensures .0 ∙ ap (changed (a .m) (a .a)) (c .before .before .with-sent .ensures))
-    ∙ sym
-    (pick-true _ _ _ (known (c .before .before .before .before .before .before .before .before .before .before .before .before .before .before .before .before))
-    ∙ pick-true _ _ _ (le-leb _ _ (c .before .before .before .before .before .before .before .before .before .before .before .before .before .before .before .if2 .left))
-    ∙ pick-true _ _ _ (in-time (c .before .before .before .before .before .before .before .before .before .before .before .before .before))
-    ∙ pick-false _ _ _ (uncut (c .before .before .before .before .before .before .before .before .before .before .before))
-    ∙ pick-false _ _ _ (unfailed (c .before .before .before .before .before .before .before .before))
-    ∙ pick-true _ _ _ (may-send (c .before .before .before .before .before))
-    ∙ pick-true _ _ _ (lt-ltb _ _ (c .before .before .before .if7 .left)))
+    let s = c .before .before .before .before .before .before .before .before .before .before .before .before .before .before .before .before .before .before .before .before in
+    let n = changes (view (s .args .s .now)) (s .args .a) (c .before .put-link .ensures .0) (s .pre .2) (s .pre .3) (c .before .before .before .with-sent .ensures) in (
+      ap₂ ruledBy (c .accept .ensures) n
+          ∙ sym
+          (talks (c .before .before .before .before .before .before .before .before .before .before .before .before) _ _
+          ∙ pick-false _ _ _ (failing (c .before .before .before .before .before .before .before .before .before .before .before) ∙ c .before .before .before .before .before .before .before .before .before .if5 .left)
+          ∙ pick-true _ _ _ (holding (c .before .before .before .before .before .before .before .before) ∙ not-false _ (c .before .before .before .before .before .before .if6 .left))
+          ∙ pick-true _ _ _ (lt-ltb _ _ (c .before .before .before .before .if7 .left))),
+      c .before .put-link .ensures .1,
+    )
 
 pub send-on-spec : {M : Type 1} → statement M
 send-on-spec =
@@ -171,6 +168,6 @@ send-on-spec =
     coded-requires-5
     returns-7
     with-sent-requires
-    change-requires
+    put-link-requires
     accept-requires
     returns-8)

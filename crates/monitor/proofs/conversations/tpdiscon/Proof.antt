@@ -1,14 +1,19 @@
--- `conversations::tpdiscon` meets its contract.
--- Assumes nothing.
-use Rattle.monitor.proofs.Usual.{ap, ap₂, sym, _∙_, arith, needs, not-true, not-false, Link, Monitor, pick-true, pick-false, valued, doom, originatorEnd, hungUp, disconnectOf}
+-- `conversations::tpdiscon` meets its contract. To doom a transaction leaves the links, and so the link's place.
+use Rattle.monitor.proofs.Usual.{_≡_, ap, ap₂, sym, _∙_, arith, needs, not-true, not-false, Link, Monitor, pick-true, pick-false, linkOf, doom, originatorEnd, hungUp, disconnectOf, view, ruledBy, count-kept}
+use Rattle.rules.specs.Record.{placeOf}
+use Rattle.monitor.proofs.Talking.{refused, no-originator, stands}
 use Rattle.monitor.proofs.conversations.tpdiscon.Statement.{statement}
 use Rattle.monitor.proofs.conversations.tpdiscon.Tie as tie
 
-link-of-requires : tie.Need-link-of-requires
-link-of-requires c κs = search needs
+-- the link read is the one with the number
+link : (c : tie.After-link-at) → let a = c .before .before .before .before .before .before .before .args in c .link-at .result ≡ linkOf (view (a .s .now)) (a .a)
+link c = let s = c .before .before .before .before .before .before .before in c .link-at .ensures ∙ stands (s .args .s .now) (s .args .a) (c .before .before .before .before .before .place-of .ensures) (s .pre .0) (c .before .before .before .count .ensures) (c .before .before .if1 .left)
 
-is-originator-end-requires : tie.Need-is-originator-end-requires
-is-originator-end-requires c κs = search needs
+place-of-requires : tie.Need-place-of-requires
+place-of-requires c κs = search needs
+
+count-requires : tie.Need-count-requires
+count-requires c κs = search needs
 
 coded-requires : tie.Need-coded-requires
 coded-requires c κs = search needs
@@ -16,41 +21,63 @@ coded-requires c κs = search needs
 returns : tie.Need-returns
 unfolding disconnectOf
 returns c =
-    let a = c .before .before .before .before .args in
-    let l = c .before .before .before .link-of .ensures in
-    c .coded .ensures ∙ sym (pick-false _ _ _ (ap (originatorEnd (a .p)) (sym l) ∙ sym (c .before .before .is-originator-end .ensures) ∙ not-true _ (c .before .if1 .taken)))
+    let s = c .before .before .before .before .before .before in
+    let none = no-originator (s .args .s .now) (s .args .a) (c .before .before .before .before .place-of .ensures) (s .pre .0) (c .before .before .count .ensures) (c .before .if1 .taken) (s .args .p) in
+    (refused (c .coded .ensures) (pick-false _ _ _ none), s .pre .1)
+
+link-at-requires : tie.Need-link-at-requires
+link-at-requires c κs = search needs
+
+is-originator-end-requires : tie.Need-is-originator-end-requires
+is-originator-end-requires c κs = search needs
+
+coded-requires-2 : tie.Need-coded-requires-2
+coded-requires-2 c κs = search needs
+
+returns-2 : tie.Need-returns-2
+unfolding disconnectOf
+returns-2 c =
+    let s = c .before .before .before .before .before .before .before .before .before .before in
+    let own = ap (originatorEnd (s .args .p)) (sym (link (c .before .before .before))) ∙ sym (c .before .before .is-originator-end .ensures) ∙ not-true _ (c .before .if2 .taken) in
+    (refused (c .coded2 .ensures) (pick-false _ _ _ own), s .pre .1)
 
 doom-tx-requires : tie.Need-doom-tx-requires
 doom-tx-requires c κs = search needs
 
 hang-up-requires : tie.Need-hang-up-requires
 hang-up-requires c κs =
-    let n = ap (λ (m : Monitor). m .count) (c .doom-tx .ensures) in
-    omega arith
+    let s = c .before .before .before .before .before .before .before .before .before .before .before .before in
+    let d = c .before .doom-tx .ensures in
+    let n = ap (λ (m : Monitor). m .count) (d .0) in
+    let i = c .before .before .before .before .before .before .before .before .before .before .place-of .ensures ∙ ap (λ (m : Monitor). placeOf m (s .args .a)) (sym (d .0)) in
+    (count-kept (d .0) (s .pre .0), d .1, i, omega (arith, n, c .before .before .before .before .before .before .before .before .count .ensures, c .before .before .before .before .before .before .before .if1 .left))
 
 accept-requires : tie.Need-accept-requires
 accept-requires c κs = search needs
 
-returns-2 : tie.Need-returns-2
+returns-3 : tie.Need-returns-3
 unfolding disconnectOf
-returns-2 c =
-    let a = c .before .before .before .before .before .before .args in
-    let l = c .before .before .before .before .before .link-of .ensures in
-    let n = c .before .before .doom-tx .ensures ∙ ap (λ (k : Link). doom (a .m) (k .tx)) l in
-    let own = ap (originatorEnd (a .p)) (sym l) ∙ sym (c .before .before .before .before .is-originator-end .ensures) ∙ not-false _ (c .before .before .before .if1 .left) in
-    c .accept .ensures
-    ∙ ap (λ (k : Monitor). valued k 0) (c .before .hang-up .ensures ∙ ap₂ (λ (m : Monitor) (k : Link). hungUp m (a .a) k) n l)
-    ∙ sym (pick-true _ _ _ own)
+returns-3 c =
+    let a = c .before .before .before .before .before .before .before .before .before .before .before .before .before .before .args in
+    let l = link (c .before .before .before .before .before .before .before) in
+    let n = c .before .before .before .doom-tx .ensures .0 ∙ ap (λ (k : Link). doom (view (a .s .now)) (k .tx)) l in
+    let own = ap (originatorEnd (a .p)) (sym l) ∙ sym (c .before .before .before .before .before .before .is-originator-end .ensures) ∙ not-false _ (c .before .before .before .before .before .if2 .left) in
+    let k = c .before .hang-up .ensures .0 ∙ ap₂ (λ (x : Monitor) (y : Link). hungUp x (a .a) y) n l in
+    (ap₂ ruledBy (c .accept .ensures) k ∙ sym (pick-true _ _ _ own), c .before .hang-up .ensures .1)
 
 pub tpdiscon-spec : {M : Type 1} → statement M
 tpdiscon-spec =
     tie.close
     (tie.spec
-    link-of-requires
-    is-originator-end-requires
+    place-of-requires
+    count-requires
     coded-requires
     returns
+    link-at-requires
+    is-originator-end-requires
+    coded-requires-2
+    returns-2
     doom-tx-requires
     hang-up-requires
     accept-requires
-    returns-2)
+    returns-3)

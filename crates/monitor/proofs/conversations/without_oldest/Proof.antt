@@ -1,6 +1,6 @@
 -- `conversations::without_oldest` meets its contract.
 -- Assumes nothing.
-use Rattle.monitor.proofs.Usual.{_-_, needs}
+use Rattle.monitor.proofs.Usual.{_-_, needs, withUnread}
 use Rattle.monitor.proofs.Tokens.{unread-long, shifted}
 use Rattle.monitor.proofs.conversations.without_oldest.Statement.{statement}
 use Rattle.monitor.proofs.conversations.without_oldest.Tie as tie
@@ -22,7 +22,7 @@ returns c =
     let a = c .before .before .before .args in
     let l = a .l in
     let u = shifted (l .unread) (unread-long l _ (c .before .before .before .good .0)) in
-    λ i. record { number = l .number; kind = l .kind; originator = l .originator; attached = l .attached; service = l .service; tx = l .tx; state = l .state; server = l .server; first = l .first; outcome = l .outcome; ending = l .ending; sender = a .sender; granting = a .granting; disconnected = l .disconnected; unread = u i; filled = l .filled - 1 }
+    λ i. withUnread l (a .sender) (a .granting) (u i) (l .filled - 1)
 
 pub without-oldest-spec : {M : Type 1} → statement M
 without-oldest-spec =

@@ -1,20 +1,12 @@
--- `run_fresh` meets its contract: the fresh monitor's list, and the theorem at it.
--- Assumes nothing.
-use mathlib.Core.Path.{ap, _∙_}
-use mathlib.Core.List.{[]}
-use borrow.Author.Needs.{needs}
+-- `fresh::run_fresh` meets its contract: the fresh monitor's list, and the theorem at it.
+use Rattle.monitor.proofs.Usual.{ap, _∙_, [], needs, Monitor, listOf}
 use denote.Ref.{now}
 use Rattle.rules.specs.History.{holds}
-use Rattle.rules.specs.Run.{Listed, listOf}
+use Rattle.rules.specs.Run.{Listed}
 use Rattle.rules.specs.Demand.{thenLent}
-use Rattle.rules.specs.declared.Monitor.{Monitor}
 use Rattle.rules.proofs.History.Theorem.{lent-holds}
 use Rattle.monitor.proofs.fresh.run_fresh.Statement.{statement}
 use Rattle.monitor.proofs.fresh.run_fresh.Tie as tie
-use Rattle.monitor.proofs.fresh.run_fresh.Reads as reads
-use Rattle.monitor.proofs.fresh.run_fresh.Lts as lts
-use Rattle.monitor.proofs.run.run_list.Reads as run-list-reads
-use Rattle.rules.proofs.Monitor.fresh.Reads as fresh-reads
 
 fresh-requires : tie.Need-fresh-requires
 fresh-requires c κs = search needs

@@ -1,66 +1,19 @@
--- `links::has_own_end` meets its contract.
--- Assumes nothing.
-use Rattle.monitor.proofs.Usual.{_-_, _≤_, _≡_, refl, sym, _∙_, arith, needs, drop, anyOf, live, ownEnd, any-here, any-later, any-none, links-long, next-live, end-live}
+-- `links::has_own_end` meets its contract: there is one where the first stands within.
+use Rattle.monitor.proofs.Usual.{ap₂, sym, _∙_, needs, ltb, ownEnd, live, view, any-first, live-long}
 use Rattle.monitor.proofs.links.has_own_end.Statement.{statement}
 use Rattle.monitor.proofs.links.has_own_end.Tie as tie
 
-abbrev Inv-loop : tie.InvT-loop
-Inv-loop p m len i₀ i = (i ≤ m .count) × (anyOf (ownEnd p) (live m) ≡ anyOf (ownEnd p) (drop i (live m)))
+first-own-requires : tie.Need-first-own-requires
+first-own-requires c κs = search needs
 
-abbrev μ-loop : tie.MeasureT-loop
-μ-loop p m len i₀ i = m .count - i
+count-requires : tie.Need-count-requires
+count-requires c κs = search needs
 
-loop-holds : tie.Need-loop-holds Inv-loop μ-loop
-loop-holds c = (search needs, refl)
-
-mul-l : tie.Need-mul-l Inv-loop μ-loop
-mul-l c = search needs
-
-element-copy-out-l : tie.Need-element-copy-out-l Inv-loop μ-loop
-element-copy-out-l c = search needs
-
-is-own-end-requires : tie.Need-is-own-end-requires Inv-loop μ-loop
-is-own-end-requires c κs = search needs
-
-returns : tie.Need-returns Inv-loop μ-loop
+returns : tie.Need-returns
 returns c =
-    let a = c .before .before .before .before .before .args in
-    let v = c .before .before .before .before .loop in
-    let n = links-long (a .t1) _ (c .before .before .before .before .before .good .0) in
-    sym (v .inv .1 ∙ any-here (ownEnd (a .p)) (live (a .t1)) (v .i) _ _ (next-live (a .t1) (v .i) n (omega arith) (omega arith)) (sym (c .before .is-own-end .ensures) ∙ c .if1 .taken))
-
-add-i : tie.Need-add-i Inv-loop μ-loop
-add-i c = search needs
-
-loop-less : tie.Need-loop-less Inv-loop μ-loop
-loop-less c = search needs
-
-loop-again : tie.Need-loop-again Inv-loop μ-loop
-loop-again c =
-    let a = c .before .before .before .before .before .args in
-    let v = c .before .before .before .before .loop in
-    let n = links-long (a .t1) _ (c .before .before .before .before .before .good .0) in
-    (omega arith, v .inv .1 ∙ any-later (ownEnd (a .p)) (live (a .t1)) (v .i) _ _ (next-live (a .t1) (v .i) n (omega arith) (omega arith)) (sym (c .before .is-own-end .ensures) ∙ c .if1 .left))
-
-returns-2 : tie.Need-returns-2 Inv-loop μ-loop
-returns-2 c =
-    let a = c .before .before .args in
-    let v = c .before .loop in
-    let n = links-long (a .t1) _ (c .before .before .good .0) in
-    sym (v .inv .1 ∙ any-none (ownEnd (a .p)) (live (a .t1)) (v .i) (end-live (a .t1) (v .i) n (omega arith) (omega arith)))
+    let s = c .before .before in
+    let xs = s .args .s .now in
+    ap₂ ltb (c .before .first-own .ensures) (c .count .ensures ∙ sym (live-long xs (s .pre))) ∙ sym (any-first (ownEnd (s .args .p)) (live (view xs)))
 
 pub has-own-end-spec : {M : Type 1} → statement M
-has-own-end-spec =
-    tie.close
-    (tie.spec
-    Inv-loop
-    μ-loop
-    loop-holds
-    mul-l
-    element-copy-out-l
-    is-own-end-requires
-    returns
-    add-i
-    loop-less
-    loop-again
-    returns-2)
+has-own-end-spec = tie.close (tie.spec first-own-requires count-requires returns)

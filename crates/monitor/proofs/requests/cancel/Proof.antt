@@ -1,27 +1,29 @@
 -- `requests::cancel` meets its contract.
-use Rattle.monitor.proofs.Usual.{ap, sym, _∙_, needs, eq-eqb, ne-eqb, changed, cancelled, pick-true, pick-false}
+use Rattle.monitor.proofs.Usual.{ap, sym, _∙_, needs, eq-eqb, ne-eqb, changed, cancelled, view, pick-true, pick-false, replaced-of}
 use Rattle.monitor.proofs.requests.cancel.Statement.{statement}
 use Rattle.monitor.proofs.requests.cancel.Tie as tie
 
-remove-requires : tie.Need-remove-requires
-remove-requires c κs = search needs
+remove-at-requires : tie.Need-remove-at-requires
+remove-at-requires c κs = search needs
 
 returns : tie.Need-returns
 unfolding cancelled
-returns c = c .remove .ensures .0 ∙ sym (pick-true _ _ _ (eq-eqb _ _ (c .before .if1 .taken)))
+returns c = (c .remove-at .ensures .0 ∙ sym (pick-true _ _ _ (eq-eqb _ _ (c .before .before .if1 .taken))), c .remove-at .ensures .1)
 
 close-end-requires : tie.Need-close-end-requires
 close-end-requires c κs = search needs
 
-change-requires : tie.Need-change-requires
-change-requires c κs = search needs
+put-link-requires : tie.Need-put-link-requires
+put-link-requires c κs = search needs
 
 returns-2 : tie.Need-returns-2
 unfolding cancelled
 returns-2 c =
-    let a = c .before .before .before .before .args in
-    c .change .ensures .0 ∙ ap (changed (a .m) (a .a)) (c .before .close-end .ensures) ∙ sym (pick-false _ _ _ (ne-eqb _ _ (c .before .before .if1 .left)))
+    let s = c .before .before .before .before .before in
+    let m = view (s .args .s .now) in
+    let r = replaced-of m (s .args .a) _ _ (s .pre .2) (s .pre .3) ∙ ap (changed m (s .args .a)) (c .before .before .close-end .ensures) in
+    (c .put-link .ensures .0 ∙ r ∙ sym (pick-false _ _ _ (ne-eqb _ _ (c .before .before .before .if1 .left))), c .put-link .ensures .1)
 
 pub cancel-spec : {M : Type 1} → statement M
 cancel-spec =
-    tie.close (tie.spec remove-requires returns close-end-requires change-requires returns-2)
+    tie.close (tie.spec remove-at-requires returns close-end-requires put-link-requires returns-2)

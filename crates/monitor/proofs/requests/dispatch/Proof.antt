@@ -1,50 +1,42 @@
 -- `requests::dispatch` meets its contract.
-use Rattle.monitor.proofs.Usual.{needs, dispatched}
+use Rattle.monitor.proofs.Usual.{ap, _∙_, needs, pos, Monitor, Party, replaced, withParty, dispatched, view}
+use Rattle.rules.specs.Record.{serving, working}
 use Rattle.monitor.proofs.requests.dispatch.Statement.{statement}
 use Rattle.monitor.proofs.requests.dispatch.Tie as tie
 
 dispatch-event-requires : tie.Need-dispatch-event-requires
 dispatch-event-requires c κs = search needs
 
-mul-q : tie.Need-mul-q
-mul-q c = search needs
-
-element-copy-out-q : tie.Need-element-copy-out-q
-element-copy-out-q c = search needs
+party-at-requires : tie.Need-party-at-requires
+party-at-requires c κs = search needs
 
 cast-k : tie.Need-cast-k
 cast-k c = search needs
 
-mul-q-2 : tie.Need-mul-q-2
-mul-q-2 c = search needs
+put-party-requires : tie.Need-put-party-requires
+put-party-requires c κs = search needs
 
-element-set-from-q : tie.Need-element-set-from-q
-element-set-from-q c = search needs
-
-mul-k : tie.Need-mul-k
-mul-k c = search needs
-
-element-set-from-k : tie.Need-element-set-from-k
-element-set-from-k c = search needs
-
-cast-t19 : tie.Need-cast-t19
-cast-t19 c = search needs
+put-link-requires : tie.Need-put-link-requires
+put-link-requires c κs = search needs
 
 returns : tie.Need-returns
 unfolding dispatched
-returns c = rw (c .before .before .dispatch-event .ensures)
+returns c =
+    let a = c .before .before .before .before .before .before .before .args in
+    let m = view (a .s .now) in
+    let n =
+    c .put-link .ensures .0
+    ∙ ap (λ (k : Monitor). replaced k (a .i) (working (a .l) (a .p))) (c .before .before .put-party .ensures .0)
+    ∙ ap (λ (q : Party). replaced (withParty m (a .p) (serving q (a .l .number))) (a .i) (working (a .l) (a .p))) (c .before .before .before .before .party-at .ensures) in
+    (λ z. record { monitor = n z; code = pos 0; value = a .l .number; event = c .before .before .before .before .before .before .dispatch-event .ensures z; token = a .l .first; service = a .l .service }, c .put-link .ensures .1)
 
 pub dispatch-spec : {M : Type 1} → statement M
 dispatch-spec =
     tie.close
     (tie.spec
     dispatch-event-requires
-    mul-q
-    element-copy-out-q
+    party-at-requires
     cast-k
-    mul-q-2
-    element-set-from-q
-    mul-k
-    element-set-from-k
-    cast-t19
+    put-party-requires
+    put-link-requires
     returns)

@@ -3,8 +3,8 @@ use Rattle.monitor.proofs.Usual.{_≡_, _∙_, needs, w64, toZ, ofZ, fe
 use Rattle.monitor.proofs.requests.fetch.Statement.{statement}
 use Rattle.monitor.proofs.requests.fetch.Tie as tie
 
-remove-requires : tie.Need-remove-requires
-remove-requires c κs = search needs
+remove-at-requires : tie.Need-remove-at-requires
+remove-at-requires c κs = search needs
 
 outcome-code-requires : tie.Need-outcome-code-requires
 outcome-code-requires c κs = search needs
@@ -14,7 +14,7 @@ unfolding fetched
 returns c =
     let o = c .outcome-code in
     let z : toZ w64 (ofZ w64 (o .result)) ≡ o .result = search needs in
-    λ i. record { monitor = c .before .remove .ensures .0 i; code = (z ∙ o .ensures) i; value = 0; event = 0; token = c .before .before .args .l .ending; service = 0 }
+    (λ i. record { monitor = c .before .remove-at .ensures .0 i; code = (z ∙ o .ensures) i; value = 0; event = 0; token = c .before .before .before .args .l .ending; service = 0 }, c .before .remove-at .ensures .1)
 
 pub fetch-spec : {M : Type 1} → statement M
-fetch-spec = tie.close (tie.spec remove-requires outcome-code-requires returns)
+fetch-spec = tie.close (tie.spec remove-at-requires outcome-code-requires returns)

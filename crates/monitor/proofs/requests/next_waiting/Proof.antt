@@ -1,38 +1,40 @@
 -- `requests::next_waiting` meets its contract. The invariant: the first that waits is the first of what is left, counted from i.
-use Rattle.monitor.proofs.Usual.{_+_, _-_, _≤_, _≡_, sym, _∙_, arith, needs, drop, firstOf, party, live, fits, first-hit, first-more, first-none, links-long, next-live, end-live}
+use Rattle.monitor.proofs.Usual.{_+_, _-_, _≤_, _≡_, ap₂, sym, _∙_, arith, needs, drop, firstOf, party, live, fits, view, linkIn, first-hit, first-more, first-none, next-live, end-live}
 use Rattle.monitor.proofs.requests.next_waiting.Statement.{statement}
 use Rattle.monitor.proofs.requests.next_waiting.Tie as tie
 
 abbrev Inv-loop : tie.InvT-loop
-Inv-loop p m q len i₀ i = (i ≤ m .count) × (firstOf (fits q) (live m) ≡ i + firstOf (fits q) (drop i (live m)))
+Inv-loop s p q len i₀ i = (len ≡ view s .count) × (i ≤ len) × (firstOf (fits (party (view s) p)) (live (view s)) ≡ i + firstOf (fits (party (view s) p)) (drop i (live (view s))))
 
 abbrev μ-loop : tie.MeasureT-loop
-μ-loop p m q len i₀ i = m .count - i
+μ-loop s p q len i₀ i = len - i
 
-mul-q : tie.Need-mul-q Inv-loop μ-loop
-mul-q c = search needs
+-- what was asked of the link at the place i
+asked : (c : tie.After-is-for Inv-loop μ-loop) → let a = c .before .before .before .before .before .before .args in let m = view (a .s .now) in fits (party m (a .p)) (linkIn m (c .before .before .before .loop .i)) ≡ c .is-for .result
+asked c = ap₂ fits (sym (c .before .before .before .before .before .party-at .ensures)) (sym (c .before .link-at .ensures)) ∙ sym (c .is-for .ensures)
 
-element-copy-out-q : tie.Need-element-copy-out-q Inv-loop μ-loop
-element-copy-out-q c = search needs
+party-at-requires : tie.Need-party-at-requires Inv-loop μ-loop
+party-at-requires c κs = search needs
+
+count-requires : tie.Need-count-requires Inv-loop μ-loop
+count-requires c κs = search needs
 
 loop-holds : tie.Need-loop-holds Inv-loop μ-loop
-loop-holds c = (search needs, search needs)
+loop-holds c = (c .count .ensures, omega arith, omega arith)
 
-mul-l : tie.Need-mul-l Inv-loop μ-loop
-mul-l c = search needs
-
-element-copy-out-l : tie.Need-element-copy-out-l Inv-loop μ-loop
-element-copy-out-l c = search needs
+link-at-requires : tie.Need-link-at-requires Inv-loop μ-loop
+link-at-requires c κs = let e = c .before .loop .inv .0 in omega arith
 
 is-for-requires : tie.Need-is-for-requires Inv-loop μ-loop
 is-for-requires c κs = search needs
 
 returns : tie.Need-returns Inv-loop μ-loop
 returns c =
-    let a = c .before .before .before .before .before .before .args in
+    let a = c .before .before .before .before .before .before .before .args in
+    let m = view (a .s .now) in
     let v = c .before .before .before .before .loop in
-    let n = links-long (a .t1) _ (c .before .before .before .before .before .before .good .0) in
-    first-hit (fits (party (a .t1) (a .p))) (live (a .t1)) (v .i) _ _ (next-live (a .t1) (v .i) n (omega arith) (omega arith)) (sym (c .before .is-for .ensures) ∙ c .if1 .taken) (v .inv .1)
+    let e = v .inv .0 in
+    first-hit (fits (party m (a .p))) (live m) (v .i) _ _ (next-live (a .s .now) (v .i) (omega arith) (omega arith)) (asked (c .before) ∙ c .if1 .taken) (v .inv .2)
 
 add-i : tie.Need-add-i Inv-loop μ-loop
 add-i c = search needs
@@ -42,17 +44,19 @@ loop-less c = search needs
 
 loop-again : tie.Need-loop-again Inv-loop μ-loop
 loop-again c =
-    let a = c .before .before .before .before .before .before .args in
+    let a = c .before .before .before .before .before .before .before .args in
+    let m = view (a .s .now) in
     let v = c .before .before .before .before .loop in
-    let n = links-long (a .t1) _ (c .before .before .before .before .before .before .good .0) in
-    (omega arith, first-more (fits (party (a .t1) (a .p))) (live (a .t1)) (v .i) _ _ (next-live (a .t1) (v .i) n (omega arith) (omega arith)) (sym (c .before .is-for .ensures) ∙ c .if1 .left) (v .inv .1))
+    let e = v .inv .0 in
+    (e, omega arith, first-more (fits (party m (a .p))) (live m) (v .i) _ _ (next-live (a .s .now) (v .i) (omega arith) (omega arith)) (asked (c .before) ∙ c .if1 .left) (v .inv .2))
 
 returns-2 : tie.Need-returns-2 Inv-loop μ-loop
 returns-2 c =
-    let a = c .before .before .before .args in
+    let a = c .before .before .before .before .args in
+    let m = view (a .s .now) in
     let v = c .before .loop in
-    let n = links-long (a .t1) _ (c .before .before .before .good .0) in
-    let e = first-none (fits (party (a .t1) (a .p))) (live (a .t1)) (v .i) (end-live (a .t1) (v .i) n (omega arith) (omega arith)) (v .inv .1) in
+    let e = v .inv .0 in
+    let z = first-none (fits (party m (a .p))) (live m) (v .i) (end-live (a .s .now) (v .i) (omega arith) (omega arith)) (v .inv .2) in
     omega arith
 
 pub next-waiting-spec : {M : Type 1} → statement M
@@ -61,11 +65,10 @@ next-waiting-spec =
     (tie.spec
     Inv-loop
     μ-loop
-    mul-q
-    element-copy-out-q
+    party-at-requires
+    count-requires
     loop-holds
-    mul-l
-    element-copy-out-l
+    link-at-requires
     is-for-requires
     returns
     add-i

@@ -1,5 +1,5 @@
 -- `requests::take` meets its contract.
-use Rattle.monitor.proofs.Usual.{ℕ, ap, sym, _∙_, arith, needs, getD, ltb, lt-ltb, le-ltb, not-true, not-false, freshLink, live, dispatched, dispatchOf, pick-true, pick-false, live-at, links-long, noLink}
+use Rattle.monitor.proofs.Usual.{ℕ, _<_, ap, sym, _∙_, arith, needs, ltb, lt-ltb, le-ltb, not-true, not-false, Told, dispatched, dispatchOf, view, liveAt, ruledBy, pick-true, pick-false, live-in}
 use Rattle.monitor.proofs.requests.take.Statement.{statement}
 use Rattle.monitor.proofs.requests.take.Tie as tie
 
@@ -11,16 +11,19 @@ coded-requires c κs = search needs
 
 returns : tie.Need-returns
 unfolding dispatchOf
-returns c = c .coded .ensures ∙ sym (pick-false _ _ _ (sym (c .before .before .is-idle .ensures) ∙ not-true _ (c .before .if1 .taken)))
+returns c =
+    let s = c .before .before .before .before in
+    let m = view (s .args .s .now) in
+    (ap (λ (t : Told). ruledBy t m) (c .coded .ensures) ∙ sym (pick-false _ _ _ (sym (c .before .before .is-idle .ensures) ∙ not-true _ (c .before .if1 .taken))), s .pre .2)
 
 next-waiting-requires : tie.Need-next-waiting-requires
 next-waiting-requires c κs = search needs
 
-mul-l : tie.Need-mul-l
-mul-l c = search needs
+count-requires : tie.Need-count-requires
+count-requires c κs = search needs
 
-element-copy-out-l : tie.Need-element-copy-out-l
-element-copy-out-l c = search needs
+link-at-requires : tie.Need-link-at-requires
+link-at-requires c κs = search needs
 
 dispatch-requires : tie.Need-dispatch-requires
 dispatch-requires c κs = search needs
@@ -28,15 +31,16 @@ dispatch-requires c κs = search needs
 returns-2 : tie.Need-returns-2
 unfolding dispatchOf
 returns-2 c =
-    let a = c .before .before .before .before .before .before .args in
-    let k = c .before .before .before .next-waiting in
-    let n = links-long (a .t1) _ (c .before .before .before .before .before .before .good .0) in
-    let l = live-at (a .t1 .count) (a .t1 .links) (k .result) freshLink noLink (omega arith) (c .before .before .if2 .taken) in
-    let t = ap (λ (i : ℕ). ltb i (a .t1 .count)) (sym (k .ensures)) ∙ lt-ltb _ _ (c .before .before .if2 .taken) in
-    c .dispatch .ensures
-    ∙ ap (dispatched (a .t1) (a .p) (k .result)) (sym l)
-    ∙ ap (λ (i : ℕ). dispatched (a .t1) (a .p) i (getD (live (a .t1)) i freshLink)) (k .ensures)
-    ∙ sym (pick-true _ _ _ (sym (c .before .before .before .before .before .is-idle .ensures) ∙ not-false _ (c .before .before .before .before .if1 .left)) ∙ pick-true _ _ _ t)
+    let s = c .before .before .before .before .before .before .before .before .before .before .before .before in
+    let m = view (s .args .s .now) in
+    let p = s .args .p in
+    let k = c .before .before .before .before .before .before .before .next-waiting in
+    let h : k .result < m .count = omega (arith, c .before .before .before .before .before .count .ensures, c .before .before .before .before .if2 .taken) in
+    let l = c .before .before .link-at .ensures ∙ sym (live-in (s .args .s .now) (k .result) (s .pre .1) h) in
+    let u = sym (c .before .before .before .before .before .before .before .before .before .before .is-idle .ensures) ∙ not-false _ (c .before .before .before .before .before .before .before .before .before .if1 .left) in
+    let v = ap (λ (i : ℕ). ltb i (m .count)) (sym (k .ensures)) ∙ lt-ltb _ _ h in
+    let r = ap (dispatched m p (k .result)) l ∙ ap (λ (i : ℕ). dispatched m p i (liveAt m i)) (k .ensures) in
+    (c .dispatch .ensures .0 ∙ r ∙ sym (pick-true _ _ _ u ∙ pick-true _ _ _ v), c .dispatch .ensures .1)
 
 coded-requires-2 : tie.Need-coded-requires-2
 coded-requires-2 c κs = search needs
@@ -44,9 +48,12 @@ coded-requires-2 c κs = search needs
 returns-3 : tie.Need-returns-3
 unfolding dispatchOf
 returns-3 c =
-    let a = c .before .before .before .before .before .args in
-    let t = ap (λ (i : ℕ). ltb i (a .t1 .count)) (sym (c .before .before .next-waiting .ensures)) ∙ le-ltb _ _ (c .before .if2 .left) in
-    c .coded2 .ensures ∙ sym (pick-true _ _ _ (sym (c .before .before .before .before .is-idle .ensures) ∙ not-false _ (c .before .before .before .if1 .left)) ∙ pick-false _ _ _ t)
+    let s = c .before .before .before .before .before .before .before .before .before in
+    let m = view (s .args .s .now) in
+    let k = c .before .before .before .before .next-waiting in
+    let u = sym (c .before .before .before .before .before .before .before .is-idle .ensures) ∙ not-false _ (c .before .before .before .before .before .before .if1 .left) in
+    let v = ap (λ (i : ℕ). ltb i (m .count)) (sym (k .ensures)) ∙ le-ltb (k .result) (m .count) (omega (arith, c .before .before .count .ensures, c .before .if2 .left)) in
+    (ap (λ (t : Told). ruledBy t m) (c .coded2 .ensures) ∙ sym (pick-true _ _ _ u ∙ pick-false _ _ _ v), s .pre .2)
 
 pub take-spec : {M : Type 1} → statement M
 take-spec =
@@ -56,8 +63,8 @@ take-spec =
     coded-requires
     returns
     next-waiting-requires
-    mul-l
-    element-copy-out-l
+    count-requires
+    link-at-requires
     dispatch-requires
     returns-2
     coded-requires-2

@@ -1,15 +1,51 @@
 -- `requests::tpacall` meets its contract.
-use Rattle.monitor.proofs.Usual.{ℕ, _≡_, ap₂, sym, _∙_, Bool, not, _&&_, needs, eqb, leb, refl, not-true, not-false, isService, txOf, requestOf, pick-true, pick-false}
-use Rattle.monitor.proofs.Opening.{opens, small-service}
+use Rattle.monitor.proofs.Usual.{ℕ, _+_, _≡_, ap, ap₂, sym, _∙_, Bool, true, false, not, _&&_, needs, ℤ, w64, toZ, ofZ, eqb, leb, not-true, not-false, Monitor, Told, pick, added, valued, isService, txOf, linkTx, requestOf, view, ruledBy, toldCode, toldValue, pick-true, pick-false}
+use Rattle.rules.specs.Codes.{badArgument}
+use Rattle.rules.specs.Record.{newLink}
+use Rattle.rules.specs.Requests.{noReply}
+use Rattle.monitor.proofs.Opening.{Asked, asked, all-pass, one-stops}
+use Rattle.monitor.proofs.Telling.{code-told}
 use Rattle.monitor.proofs.requests.tpacall.Statement.{statement}
 use Rattle.monitor.proofs.requests.tpacall.Tie as tie
 
--- the first question, of the service and the flags
 abbrev isGood : Bool → ℕ → ℕ → Bool
 isGood service b t = service && (leb b 3 && not (eqb b 1 && not (eqb t 0)))
 
-good : (c : tie.After-is-service) → let a = c .before .before .args in isGood (isService (a .a)) (a .b) (txOf (a .m) (a .p)) ≡ isGood (c .is-service .result) (a .b) (c .before .tx-of .result)
-good c = sym (ap₂ (λ (s : Bool) (t : ℕ). isGood s (c .before .before .args .b) t) (c .is-service .ensures) (c .before .tx-of .ensures))
+-- the rule, one law an outcome
+module _ (m : Monitor) (p a b c : ℕ) where
+  refused : {r : Told} → isGood (isService a) b (txOf m p) ≡ false → r ≡ toldCode badArgument → ruledBy r m ≡ requestOf m p a b c
+  unfolding requestOf
+  refused g r = code-told m r ∙ sym (pick-false _ _ _ g)
+
+  module _ (g : isGood (isService a) b (txOf m p) ≡ true) {code : ℤ} (e : Asked m (linkTx m p b) a code) where
+    stopped : {r : Told} → (ofZ w64 code ≡ 0 → ⊥) → r ≡ toldCode (toZ w64 (ofZ w64 code)) → ruledBy r m ≡ requestOf m p a b c
+    unfolding requestOf
+    stopped h r = one-stops m (linkTx m p b) a e h r _ ∙ sym (pick-true _ _ _ g)
+
+    opened : {n : Monitor} {x t v : ℕ} {r : Told} → ofZ w64 code ≡ 0 → n ≡ added m (newLink (m .lastlink + 1) 0 p x a t c 0) → x ≡ pick (noReply b) 0 1 → t ≡ linkTx m p b
+        → v ≡ pick (noReply b) 0 (m .lastlink + 1) → r ≡ toldValue v → ruledBy r n ≡ requestOf m p a b c
+    unfolding requestOf
+    opened h n x t v r =
+        ap₂ ruledBy r (n ∙ ap₂ (λ (x t : ℕ). added m (newLink (m .lastlink + 1) 0 p x a t c 0)) x t)
+        ∙ ap (valued _) v
+        ∙ sym (pick-true _ _ _ g ∙ all-pass m (linkTx m p b) a e h .2 _)
+
+-- the first question, of the service and the flags
+good : (c : tie.After-is-service) → let a = c .before .before .before .args in isGood (isService (a .a)) (a .b) (txOf (view (a .s .now)) (a .p)) ≡ isGood (c .is-service .result) (a .b) (c .before .tx-of .result)
+good c = sym (ap₂ (λ (s : Bool) (t : ℕ). isGood s (c .before .before .before .args .b) t) (c .is-service .ensures) (c .before .tx-of .ensures))
+
+-- those after it
+answer : (c : tie.After-ask-link) → let a = c .before .before .before .before .before .before .before .before .args in let m = view (a .s .now) in Asked m (linkTx m (a .p) (a .b)) (a .a) (c .ask-link .result)
+answer c =
+    let r = c .ask-link in
+    let z : toZ w64 (ofZ w64 (r .result)) ≡ r .result = search needs in
+    asked _ _ (r .ensures) (c .before .before .link-tx .ensures) z
+
+-- past them, the link is there
+told : (c : tie.After-no-reply) {v : ℕ} {r : Told} → let a = c .before .before .before .before .before .before .before .before .before .before .before .before .before .args in let m = view (a .s .now) in v ≡ pick (noReply (a .b)) 0 (m .lastlink + 1) → r ≡ toldValue v → ruledBy r (view (c .before .open-link .last .0)) ≡ requestOf m (a .p) (a .a) (a .b) (a .c)
+told c =
+    let a = c .before .before .before .before .before .before .before .before .before .before .before .before .before .args in
+    opened (view (a .s .now)) (a .p) (a .a) (a .b) (a .c) (good (c .before .before .before .before .before .before .before .before .before .before) ∙ not-false _ (c .before .before .before .before .before .before .before .before .before .if1 .left)) (answer (c .before .before .before .before .before)) (c .before .before .before .before .if2 .left) (c .before .open-link .ensures .1) (c .before .before .before .open-end .ensures) (c .before .before .before .before .before .before .before .link-tx .ensures)
 
 tx-of-requires : tie.Need-tx-of-requires
 tx-of-requires c κs = search needs
@@ -21,42 +57,52 @@ coded-requires : tie.Need-coded-requires
 coded-requires c κs = search needs
 
 returns : tie.Need-returns
-unfolding requestOf
-returns c = c .coded .ensures ∙ sym (pick-false _ _ _ (good (c .before .before) ∙ not-true _ (c .before .if1 .taken)))
+returns c =
+    let s = c .before .before .before .before .before in
+    let a = s .args in
+    (refused (view (a .s .now)) (a .p) (a .a) (a .b) (a .c) (good (c .before .before) ∙ not-true _ (c .before .if1 .taken)) (c .coded .ensures), s .pre .2)
 
 link-tx-requires : tie.Need-link-tx-requires
 link-tx-requires c κs = search needs
 
+ask-link-requires : tie.Need-ask-link-requires
+ask-link-requires c κs = search needs
+
+coded-requires-2 : tie.Need-coded-requires-2
+coded-requires-2 c κs = search needs
+
+returns-2 : tie.Need-returns-2
+returns-2 c =
+    let s = c .before .before .before .before .before .before .before .before .before .before in
+    let a = s .args in
+    (stopped (view (a .s .now)) (a .p) (a .a) (a .b) (a .c) (good (c .before .before .before .before .before .before .before) ∙ not-false _ (c .before .before .before .before .before .before .if1 .left)) (answer (c .before .before)) (c .before .if2 .taken) (c .coded2 .ensures), s .pre .2)
+
+open-end-requires : tie.Need-open-end-requires
+open-end-requires c κs = search needs
+
+open-link-requires : tie.Need-open-link-requires
+open-link-requires c κs = let h = all-pass _ _ _ (answer (c .before .before .before)) (c .before .before .if2 .left) in search needs
+
 no-reply-requires : tie.Need-no-reply-requires
 no-reply-requires c κs = search needs
 
-new-link-requires : tie.Need-new-link-requires
-new-link-requires c κs = (c .before .before .before .before .before .before .pre .0, small-service _ _ (c .before .before .before .before .is-service .ensures) (not-false _ (c .before .before .before .if1 .left)))
-
-open-link-requires : tie.Need-open-link-requires
-open-link-requires c κs = search needs
-
-returns-2 : tie.Need-returns-2
-unfolding requestOf
-returns-2 c =
-    let a = c .before .before .before .before .before .before .before .before .args in
-    let f = sym (c .before .before .before .no-reply .ensures) ∙ c .before .before .if2 .taken in
-    opens (a .m) 0 (a .p) (a .a) (a .c) (c .open-link .ensures) (c .before .new-link .ensures) (c .before .before .before .before .link-tx .ensures) (sym (pick-true _ _ _ f)) refl (pick-true _ _ _ refl ∙ sym (pick-true _ _ _ f))
-    ∙ sym (pick-true _ _ _ (good (c .before .before .before .before .before .before) ∙ not-false _ (c .before .before .before .before .before .if1 .left)))
-
-new-link-requires-2 : tie.Need-new-link-requires-2
-new-link-requires-2 c κs = (c .before .before .before .before .before .before .pre .0, small-service _ _ (c .before .before .before .before .is-service .ensures) (not-false _ (c .before .before .before .if1 .left)))
-
-open-link-requires-2 : tie.Need-open-link-requires-2
-open-link-requires-2 c κs = search needs
+accept-requires : tie.Need-accept-requires
+accept-requires c κs = search needs
 
 returns-3 : tie.Need-returns-3
-unfolding requestOf
 returns-3 c =
-    let a = c .before .before .before .before .before .before .before .before .args in
-    let f = sym (c .before .before .before .no-reply .ensures) ∙ c .before .before .if2 .left in
-    opens (a .m) 0 (a .p) (a .a) (a .c) (c .open-link2 .ensures) (c .before .new-link2 .ensures) (c .before .before .before .before .link-tx .ensures) (sym (pick-false _ _ _ f)) refl (pick-false _ _ _ refl ∙ sym (pick-false _ _ _ f))
-    ∙ sym (pick-true _ _ _ (good (c .before .before .before .before .before .before) ∙ not-false _ (c .before .before .before .before .before .if1 .left)))
+    let n = c .before .before in
+    let v = sym (pick-true _ _ _ (sym (n .no-reply .ensures) ∙ c .before .if3 .taken)) in
+    (told n v (c .accept .ensures), n .before .open-link .ensures .2)
+
+accept-requires-2 : tie.Need-accept-requires-2
+accept-requires-2 c κs = search needs
+
+returns-4 : tie.Need-returns-4
+returns-4 c =
+    let n = c .before .before in
+    let v = n .before .open-link .ensures .0 ∙ sym (pick-false _ _ _ (sym (n .no-reply .ensures) ∙ c .before .if3 .left)) in
+    (told n v (c .accept2 .ensures), n .before .open-link .ensures .2)
 
 pub tpacall-spec : {M : Type 1} → statement M
 tpacall-spec =
@@ -67,10 +113,13 @@ tpacall-spec =
     coded-requires
     returns
     link-tx-requires
-    no-reply-requires
-    new-link-requires
-    open-link-requires
+    ask-link-requires
+    coded-requires-2
     returns-2
-    new-link-requires-2
-    open-link-requires-2
-    returns-3)
+    open-end-requires
+    open-link-requires
+    no-reply-requires
+    accept-requires
+    returns-3
+    accept-requires-2
+    returns-4)

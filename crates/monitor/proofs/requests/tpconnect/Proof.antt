@@ -1,12 +1,42 @@
 -- `requests::tpconnect` meets its contract.
-use Rattle.monitor.proofs.Usual.{_≡_, refl, ap₂, sym, _∙_, _&&_, needs, not-true, not-false, isService, connectFlags, connectOf, pick-true, pick-false}
-use Rattle.monitor.proofs.Opening.{opens, small-service}
+use Rattle.monitor.proofs.Usual.{ℕ, _+_, _≡_, ap, ap₂, sym, _∙_, true, false, _&&_, needs, ℤ, w64, toZ, ofZ, not-true, not-false, Monitor, Told, pick, added, valued, isService, connectFlags, linkTx, connectOf, view, ruledBy, toldCode, toldValue, pick-true, pick-false}
+use Rattle.rules.specs.Codes.{badArgument}
+use Rattle.rules.specs.Record.{newLink}
+use Rattle.rules.specs.Requests.{recvOnly}
+use Rattle.monitor.proofs.Opening.{Asked, asked, all-pass, one-stops}
+use Rattle.monitor.proofs.Telling.{code-told}
 use Rattle.monitor.proofs.requests.tpconnect.Statement.{statement}
 use Rattle.monitor.proofs.requests.tpconnect.Tie as tie
 
+-- the rule, one law an outcome
+module _ (m : Monitor) (p a b c : ℕ) where
+  refused : {r : Told} → isService a && connectFlags b ≡ false → r ≡ toldCode badArgument → ruledBy r m ≡ connectOf m p a b c
+  unfolding connectOf
+  refused g r = code-told m r ∙ sym (pick-false _ _ _ g)
+
+  module _ (g : isService a && connectFlags b ≡ true) {code : ℤ} (e : Asked m (linkTx m p b) a code) where
+    stopped : {r : Told} → (ofZ w64 code ≡ 0 → ⊥) → r ≡ toldCode (toZ w64 (ofZ w64 code)) → ruledBy r m ≡ connectOf m p a b c
+    unfolding connectOf
+    stopped h r = one-stops m (linkTx m p b) a e h r _ ∙ sym (pick-true _ _ _ g)
+
+    opened : {n : Monitor} {t x v : ℕ} {r : Told} → ofZ w64 code ≡ 0 → n ≡ added m (newLink (m .lastlink + 1) 1 p 1 a t c x) → t ≡ linkTx m p b → x ≡ pick (recvOnly b) 1 0
+        → v ≡ m .lastlink + 1 → r ≡ toldValue v → ruledBy r n ≡ connectOf m p a b c
+    unfolding connectOf
+    opened h n t x v r =
+        ap₂ ruledBy r (n ∙ ap₂ (λ (t x : ℕ). added m (newLink (m .lastlink + 1) 1 p 1 a t c x)) t x)
+        ∙ ap (valued _) v
+        ∙ sym (pick-true _ _ _ g ∙ all-pass m (linkTx m p b) a e h .2 _)
+
 -- the first question, of the service and the flags
-good : (c : tie.After-connect-flags) → isService (c .before .before .args .a) && connectFlags (c .before .before .args .b) ≡ c .before .is-service .result && c .connect-flags .result
+good : (c : tie.After-connect-flags) → let a = c .before .before .args in isService (a .a) && connectFlags (a .b) ≡ c .before .is-service .result && c .connect-flags .result
 good c = sym (ap₂ _&&_ (c .before .is-service .ensures) (c .connect-flags .ensures))
+
+-- those after it
+answer : (c : tie.After-ask-link) → let a = c .before .before .before .before .before .before .before .args in let m = view (a .s .now) in Asked m (linkTx m (a .p) (a .b)) (a .a) (c .ask-link .result)
+answer c =
+    let r = c .ask-link in
+    let z : toZ w64 (ofZ w64 (r .result)) ≡ r .result = search needs in
+    asked _ _ (r .ensures) (c .before .before .link-tx .ensures) z
 
 is-service-requires : tie.Need-is-service-requires
 is-service-requires c κs = search needs
@@ -18,42 +48,41 @@ coded-requires : tie.Need-coded-requires
 coded-requires c κs = search needs
 
 returns : tie.Need-returns
-unfolding connectOf
-returns c = c .coded .ensures ∙ sym (pick-false _ _ _ (good (c .before .before) ∙ not-true _ (c .before .if1 .taken)))
+returns c =
+    let s = c .before .before .before .before in
+    let a = s .args in
+    (refused (view (a .s .now)) (a .p) (a .a) (a .b) (a .c) (good (c .before .before) ∙ not-true _ (c .before .if1 .taken)) (c .coded .ensures), s .pre .2)
 
 link-tx-requires : tie.Need-link-tx-requires
 link-tx-requires c κs = search needs
 
-recv-only-requires : tie.Need-recv-only-requires
-recv-only-requires c κs = search needs
+ask-link-requires : tie.Need-ask-link-requires
+ask-link-requires c κs = search needs
 
-new-link-requires : tie.Need-new-link-requires
-new-link-requires c κs = (c .before .before .before .before .before .before .pre .0, small-service _ _ (c .before .before .before .before .before .is-service .ensures) (not-false _ (c .before .before .before .if1 .left)))
-
-open-link-requires : tie.Need-open-link-requires
-open-link-requires c κs = search needs
+coded-requires-2 : tie.Need-coded-requires-2
+coded-requires-2 c κs = search needs
 
 returns-2 : tie.Need-returns-2
-unfolding connectOf
 returns-2 c =
-    let a = c .before .before .before .before .before .before .before .before .args in
-    let f = sym (c .before .before .before .recv-only .ensures) ∙ c .before .before .if2 .taken in
-    opens (a .m) 1 (a .p) (a .a) (a .c) (c .open-link .ensures) (c .before .new-link .ensures) (c .before .before .before .before .link-tx .ensures) refl (sym (pick-true _ _ _ f)) (pick-false _ _ _ refl)
-    ∙ sym (pick-true _ _ _ (good (c .before .before .before .before .before .before) ∙ not-false _ (c .before .before .before .before .before .if1 .left)))
+    let s = c .before .before .before .before .before .before .before .before .before in
+    let a = s .args in
+    (stopped (view (a .s .now)) (a .p) (a .a) (a .b) (a .c) (good (c .before .before .before .before .before .before .before) ∙ not-false _ (c .before .before .before .before .before .before .if1 .left)) (answer (c .before .before)) (c .before .if2 .taken) (c .coded2 .ensures), s .pre .2)
 
-new-link-requires-2 : tie.Need-new-link-requires-2
-new-link-requires-2 c κs = (c .before .before .before .before .before .before .pre .0, small-service _ _ (c .before .before .before .before .before .is-service .ensures) (not-false _ (c .before .before .before .if1 .left)))
+first-sender-requires : tie.Need-first-sender-requires
+first-sender-requires c κs = search needs
 
-open-link-requires-2 : tie.Need-open-link-requires-2
-open-link-requires-2 c κs = search needs
+open-link-requires : tie.Need-open-link-requires
+open-link-requires c κs = let h = all-pass _ _ _ (answer (c .before .before .before)) (c .before .before .if2 .left) in search needs
+
+accept-requires : tie.Need-accept-requires
+accept-requires c κs = search needs
 
 returns-3 : tie.Need-returns-3
-unfolding connectOf
 returns-3 c =
-    let a = c .before .before .before .before .before .before .before .before .args in
-    let f = sym (c .before .before .before .recv-only .ensures) ∙ c .before .before .if2 .left in
-    opens (a .m) 1 (a .p) (a .a) (a .c) (c .open-link2 .ensures) (c .before .new-link2 .ensures) (c .before .before .before .before .link-tx .ensures) refl (sym (pick-false _ _ _ f)) (pick-false _ _ _ refl)
-    ∙ sym (pick-true _ _ _ (good (c .before .before .before .before .before .before) ∙ not-false _ (c .before .before .before .before .before .if1 .left)))
+    let a = c .before .before .before .before .before .before .before .before .before .before .before .before .args in
+    let o = c .before .open-link in
+    let g = good (c .before .before .before .before .before .before .before .before .before .before) ∙ not-false _ (c .before .before .before .before .before .before .before .before .before .if1 .left) in
+    (opened (view (a .s .now)) (a .p) (a .a) (a .b) (a .c) g (answer (c .before .before .before .before .before)) (c .before .before .before .before .if2 .left) (o .ensures .1) (c .before .before .before .before .before .before .before .link-tx .ensures) (c .before .before .before .first-sender .ensures) (o .ensures .0) (c .accept .ensures), o .ensures .2)
 
 pub tpconnect-spec : {M : Type 1} → statement M
 tpconnect-spec =
@@ -64,10 +93,10 @@ tpconnect-spec =
     coded-requires
     returns
     link-tx-requires
-    recv-only-requires
-    new-link-requires
-    open-link-requires
+    ask-link-requires
+    coded-requires-2
     returns-2
-    new-link-requires-2
-    open-link-requires-2
+    first-sender-requires
+    open-link-requires
+    accept-requires
     returns-3)

@@ -1,61 +1,40 @@
--- `returns::close_own` equals `closeOwn`: the loop gathers what `closeEnd` makes of each live link.
+-- `returns::close_own` meets its contract: a sweep that dooms.
 -- Assumes nothing.
-use Rattle.monitor.proofs.Usual.{ℕ, _-_, _≡_, ap, sym, _∙_, [], _∷_, true, false, arith, needs, eq-eqb, ne-eqb, not-true, not-false, Link, Monitor, live, withParties, closed, cutOff, ownEnd, closeEnd, doomedBy, closeOwn, pick-true, pick-false, links-long, Gathers, gather-none, gather-one, gather-skip, gathered}
+use Prim.Native.Nat.{_-_}
+use mathlib.Core.Path.{_≡_, sym, _∙_}
+use native.Mathlib.Omega.{arith}
+use borrow.Author.Needs.{needs}
+use Rattle.rules.proofs.Logic.{not-true, not-false}
+use Rattle.monitor.specs.View.{view}
+use Rattle.monitor.proofs.Closing.{stays, cuts, conversation-goes, request-goes, closes, dooms, not-own, no-conversation, Closes, close-start, close-drop, close-put, doom-drop, doom-put, close-end}
 use Rattle.monitor.proofs.returns.close_own.Statement.{statement}
 use Rattle.monitor.proofs.returns.close_own.Tie as tie
 
--- what is left of a link of party p's own, by the code's three questions
-module _ (p : ℕ) (l : Link) (own : ownEnd p l ≡ true) where
-  cuts : (k : Link) → l .kind ≡ 1 → l .state ≡ 1 → k ≡ cutOff l → closeEnd p l ≡ k ∷ []
-  unfolding closeEnd
-  cuts k h s e = pick-true _ _ _ own ∙ pick-true _ _ _ (eq-eqb _ _ h) ∙ pick-true _ _ _ (eq-eqb _ _ s) ∙ ap (λ (y : Link). y ∷ []) (sym e)
-
-  conversation-goes : l .kind ≡ 1 → (l .state ≡ 1 → ⊥) → closeEnd p l ≡ []
-  unfolding closeEnd
-  conversation-goes h s = pick-true _ _ _ own ∙ pick-true _ _ _ (eq-eqb _ _ h) ∙ pick-false _ _ _ (ne-eqb _ _ s)
-
-  request-goes : (l .kind ≡ 1 → ⊥) → l .state ≡ 2 → closeEnd p l ≡ []
-  unfolding closeEnd
-  request-goes h s = pick-true _ _ _ own ∙ pick-false _ _ _ (ne-eqb _ _ h) ∙ pick-true _ _ _ (eq-eqb _ _ s)
-
-  closes : (k : Link) → (l .kind ≡ 1 → ⊥) → (l .state ≡ 2 → ⊥) → k ≡ closed l → closeEnd p l ≡ k ∷ []
-  unfolding closeEnd
-  closes k h s e = pick-true _ _ _ own ∙ pick-false _ _ _ (ne-eqb _ _ h) ∙ pick-false _ _ _ (ne-eqb _ _ s) ∙ ap (λ (y : Link). y ∷ []) (sym e)
-
--- another's stays
-stays : (p : ℕ) (l : Link) → ownEnd p l ≡ false → closeEnd p l ≡ l ∷ []
-unfolding closeEnd
-stays p l other = pick-false _ _ _ other
-
 abbrev Inv-loop : tie.InvT-loop
-Inv-loop p m d len a₀ i₀ j₀ a i j = Gathers (closeEnd p) m a i j
+Inv-loop s₀ p from len i₀ j₀ s i j = (len ≡ view s₀ .count) × Closes p s₀ s i j
 
 abbrev μ-loop : tie.MeasureT-loop
-μ-loop p m d len a₀ i₀ j₀ a i j = m .count - i
+μ-loop s₀ p from len i₀ j₀ s i j = len - i
 
-doom-by-requires : tie.Need-doom-by-requires Inv-loop μ-loop
-doom-by-requires c κs = search needs
+first-own-requires : tie.Need-first-own-requires Inv-loop μ-loop
+first-own-requires c κs = search needs
 
-fresh-requires : tie.Need-fresh-requires Inv-loop μ-loop
-fresh-requires c κs = search needs
+count-requires : tie.Need-count-requires Inv-loop μ-loop
+count-requires c κs = search needs
 
 loop-holds : tie.Need-loop-holds Inv-loop μ-loop
-loop-holds c = gather-none _ (c .before .before .args .t1) _ (c .fresh .ensures)
+loop-holds c =
+    let s = c .before .before .before .before in
+    (c .count .ensures, close-start (s .args .p) (s .args .s .now) _ (s .pre .1) (s .pre .0) (c .before .before .first-own .ensures))
 
-mul-l : tie.Need-mul-l Inv-loop μ-loop
-mul-l c = search needs
-
-element-copy-out-l : tie.Need-element-copy-out-l Inv-loop μ-loop
-element-copy-out-l c = search needs
+link-at-requires : tie.Need-link-at-requires Inv-loop μ-loop
+link-at-requires c κs = search needs
 
 is-own-end-requires : tie.Need-is-own-end-requires Inv-loop μ-loop
 is-own-end-requires c κs = search needs
 
-mul-a : tie.Need-mul-a Inv-loop μ-loop
-mul-a c = search needs
-
-array-set-from-a : tie.Need-array-set-from-a Inv-loop μ-loop
-array-set-from-a c = search needs
+put-link-requires : tie.Need-put-link-requires Inv-loop μ-loop
+put-link-requires c κs = search needs
 
 add-i : tie.Need-add-i Inv-loop μ-loop
 add-i c = search needs
@@ -68,33 +47,45 @@ loop-less c = search needs
 
 loop-again : tie.Need-loop-again Inv-loop μ-loop
 loop-again c =
-    let a = c .before .before .before .before .before .before .before .args in
-    let v = c .before .before .before .before .loop in
-    gather-one (closeEnd (a .p)) (a .t1) (v .a) (v .i) (v .j) (links-long (a .t1) _ (c .before .before .before .before .before .before .before .good .0)) (omega arith) (v .inv) (omega arith) _ (stays _ _ (sym (c .before .is-own-end .ensures) ∙ not-true _ (c .if1 .taken)))
+    let v = c .before .before .before .before .before .before .before .loop in
+    let l = c .before .before .before .before .link-at in
+    let own = sym (c .before .before .before .is-own-end .ensures) ∙ not-true _ (c .before .before .if1 .taken) in
+    let e = v .inv .0 in
+    (e, close-put (v .inv .1) (omega arith) (l .ensures) (not-own _ _ own) _ (c .put-link .ensures) (stays _ _ own))
 
 cut-off-requires : tie.Need-cut-off-requires Inv-loop μ-loop
 cut-off-requires c κs = search needs
 
-mul-a-2 : tie.Need-mul-a-2 Inv-loop μ-loop
-mul-a-2 c = search needs
+put-link-requires-2 : tie.Need-put-link-requires-2 Inv-loop μ-loop
+put-link-requires-2 c κs = search needs
 
-array-set-from-a-2 : tie.Need-array-set-from-a-2 Inv-loop μ-loop
-array-set-from-a-2 c = search needs
+doom-tx-requires : tie.Need-doom-tx-requires Inv-loop μ-loop
+doom-tx-requires c κs = search needs
 
 add-i-2 : tie.Need-add-i-2 Inv-loop μ-loop
 add-i-2 c = search needs
 
 add-j-2 : tie.Need-add-j-2 Inv-loop μ-loop
-add-j-2 c = search needs
+add-j-2 c =
+    let v = c .before .before .before .before .before .before .before .before .before .before .before .before .before .before .loop in
+    let g = v .inv .1 .sweep in
+    let h = c .before .before .before .before .before .before .before .before .before .before .before .before .before .loop-test .taken in
+    search needs
 
 loop-less-2 : tie.Need-loop-less-2 Inv-loop μ-loop
 loop-less-2 c = search needs
 
 loop-again-2 : tie.Need-loop-again-2 Inv-loop μ-loop
 loop-again-2 c =
-    let a = c .before .before .before .before .before .before .before .before .before .before .before .before .args in
-    let v = c .before .before .before .before .before .before .before .before .before .loop in
-    gather-one (closeEnd (a .p)) (a .t1) (v .a) (v .i) (v .j) (links-long (a .t1) _ (c .before .before .before .before .before .before .before .before .before .before .before .before .good .0)) (omega arith) (v .inv) (omega arith) _ (cuts _ _ (sym (c .before .before .before .before .before .before .is-own-end .ensures) ∙ not-false _ (c .before .before .before .before .before .if1 .left)) _ (c .before .before .before .if2 .taken) (c .before .if3 .taken) (c .cut-off .ensures))
+    let v = c .before .before .before .before .before .before .before .before .before .before .before .before .before .before .loop in
+    let l = c .before .before .before .before .before .before .before .before .before .before .before .link-at in
+    let own = sym (c .before .before .before .before .before .before .before .before .before .before .is-own-end .ensures) ∙ not-false _ (c .before .before .before .before .before .before .before .before .before .if1 .left) in
+    let e = v .inv .0 in
+    let h = c .before .before .before .before .before .before .before .before .before .before .before .before .before .loop-test .taken in
+    (e, doom-put (v .inv .1) (omega arith) (l .ensures) (dooms _ _ own (c .before .before .before .before .before .before .before .if2 .taken)) _ _ (c .before .before .put-link2 .ensures) (c .doom-tx .ensures) (cuts _ _ own _ (c .before .before .before .before .before .before .before .if2 .taken) (c .before .before .before .before .before .if3 .taken) (c .before .before .before .before .cut-off .ensures)))
+
+doom-tx-requires-2 : tie.Need-doom-tx-requires-2 Inv-loop μ-loop
+doom-tx-requires-2 c κs = search needs
 
 add-i-3 : tie.Need-add-i-3 Inv-loop μ-loop
 add-i-3 c = search needs
@@ -104,9 +95,11 @@ loop-less-3 c = search needs
 
 loop-again-3 : tie.Need-loop-again-3 Inv-loop μ-loop
 loop-again-3 c =
-    let a = c .before .before .before .before .before .before .before .before .before .before .before .args in
-    let v = c .before .before .before .before .before .before .before .before .loop in
-    gather-skip (closeEnd (a .p)) (a .t1) (v .a) (v .i) (v .j) (links-long (a .t1) _ (c .before .before .before .before .before .before .before .before .before .before .before .good .0)) (omega arith) (v .inv) (omega arith) (conversation-goes _ _ (sym (c .before .before .before .before .before .is-own-end .ensures) ∙ not-false _ (c .before .before .before .before .if1 .left)) (c .before .before .if2 .taken) (c .if3 .left))
+    let v = c .before .before .before .before .before .before .before .before .before .before .before .loop in
+    let l = c .before .before .before .before .before .before .before .before .link-at in
+    let own = sym (c .before .before .before .before .before .before .before .is-own-end .ensures) ∙ not-false _ (c .before .before .before .before .before .before .if1 .left) in
+    let e = v .inv .0 in
+    (e, doom-drop (v .inv .1) (omega arith) (l .ensures) (dooms _ _ own (c .before .before .before .before .if2 .taken)) _ (c .doom-tx2 .ensures) (conversation-goes _ _ own (c .before .before .before .before .if2 .taken) (c .before .before .if3 .left)))
 
 add-i-4 : tie.Need-add-i-4 Inv-loop μ-loop
 add-i-4 c = search needs
@@ -116,43 +109,47 @@ loop-less-4 c = search needs
 
 loop-again-4 : tie.Need-loop-again-4 Inv-loop μ-loop
 loop-again-4 c =
-    let a = c .before .before .before .before .before .before .before .before .before .before .before .args in
-    let v = c .before .before .before .before .before .before .before .before .loop in
-    gather-skip (closeEnd (a .p)) (a .t1) (v .a) (v .i) (v .j) (links-long (a .t1) _ (c .before .before .before .before .before .before .before .before .before .before .before .good .0)) (omega arith) (v .inv) (omega arith) (request-goes _ _ (sym (c .before .before .before .before .before .is-own-end .ensures) ∙ not-false _ (c .before .before .before .before .if1 .left)) (c .before .before .if2 .left) (c .if4 .taken))
+    let v = c .before .before .before .before .before .before .before .before .before .loop in
+    let l = c .before .before .before .before .before .before .link-at in
+    let own = sym (c .before .before .before .before .before .is-own-end .ensures) ∙ not-false _ (c .before .before .before .before .if1 .left) in
+    let e = v .inv .0 in
+    (e, close-drop (v .inv .1) (omega arith) (l .ensures) (no-conversation _ _ (c .before .before .if2 .left)) (request-goes _ _ own (c .before .before .if2 .left) (c .if4 .taken)))
 
 close-end-requires : tie.Need-close-end-requires Inv-loop μ-loop
 close-end-requires c κs = search needs
 
-mul-a-3 : tie.Need-mul-a-3 Inv-loop μ-loop
-mul-a-3 c = search needs
-
-array-set-from-a-3 : tie.Need-array-set-from-a-3 Inv-loop μ-loop
-array-set-from-a-3 c = search needs
+put-link-requires-3 : tie.Need-put-link-requires-3 Inv-loop μ-loop
+put-link-requires-3 c κs = search needs
 
 add-i-5 : tie.Need-add-i-5 Inv-loop μ-loop
 add-i-5 c = search needs
 
 add-j-3 : tie.Need-add-j-3 Inv-loop μ-loop
-add-j-3 c = search needs
+add-j-3 c =
+    let v = c .before .before .before .before .before .before .before .before .before .before .before .before .loop in
+    let g = v .inv .1 .sweep in
+    let h = c .before .before .before .before .before .before .before .before .before .before .before .loop-test .taken in
+    search needs
 
 loop-less-5 : tie.Need-loop-less-5 Inv-loop μ-loop
 loop-less-5 c = search needs
 
 loop-again-5 : tie.Need-loop-again-5 Inv-loop μ-loop
 loop-again-5 c =
-    let a = c .before .before .before .before .before .before .before .before .before .before .before .before .args in
-    let v = c .before .before .before .before .before .before .before .before .before .loop in
-    gather-one (closeEnd (a .p)) (a .t1) (v .a) (v .i) (v .j) (links-long (a .t1) _ (c .before .before .before .before .before .before .before .before .before .before .before .before .good .0)) (omega arith) (v .inv) (omega arith) _ (closes _ _ (sym (c .before .before .before .before .before .before .is-own-end .ensures) ∙ not-false _ (c .before .before .before .before .before .if1 .left)) _ (c .before .before .before .if2 .left) (c .before .if4 .left) (c .close-end .ensures))
+    let v = c .before .before .before .before .before .before .before .before .before .before .before .before .loop in
+    let l = c .before .before .before .before .before .before .before .before .before .link-at in
+    let own = sym (c .before .before .before .before .before .before .before .before .is-own-end .ensures) ∙ not-false _ (c .before .before .before .before .before .before .before .if1 .left) in
+    let e = v .inv .0 in
+    (e, close-put (v .inv .1) (omega arith) (l .ensures) (no-conversation _ _ (c .before .before .before .before .before .if2 .left)) _ (c .put-link3 .ensures) (closes _ _ own _ (c .before .before .before .before .before .if2 .left) (c .before .before .before .if4 .left) (c .before .before .close-end .ensures)))
+
+keep-first-requires : tie.Need-keep-first-requires Inv-loop μ-loop
+keep-first-requires c κs = search needs
 
 returns : tie.Need-returns Inv-loop μ-loop
-unfolding closeOwn
 returns c =
-    let a = c .before .before .before .before .args in
-    let v = c .before .loop in (
-      ap (λ (d : Monitor). record { clock = d .clock; lastlink = d .lastlink; lasttx = d .lasttx; parties = d .parties; links = v .a; count = v .j }) (c .before .before .before .doom-by .ensures)
-          ∙ gathered (closeEnd (a .p)) (withParties (a .t1) (doomedBy (a .p) (live (a .t1)) (a .t1 .parties))) (v .a) (v .i) (v .j) (omega arith) (v .inv .2) (v .inv .3),
-      omega arith,
-    )
+    let v = c .before .before .before .loop in
+    let e = v .inv .0 in
+    (close-end (v .inv .1) _ (omega arith) (c .keep-first .ensures .0), c .keep-first .ensures .1, c .keep-first .ensures .2)
 
 pub close-own-spec : {M : Type 1} → statement M
 close-own-spec =
@@ -160,25 +157,24 @@ close-own-spec =
     (tie.spec
     Inv-loop
     μ-loop
-    doom-by-requires
-    fresh-requires
+    first-own-requires
+    count-requires
     loop-holds
-    mul-l
-    element-copy-out-l
+    link-at-requires
     is-own-end-requires
-    mul-a
-    array-set-from-a
+    put-link-requires
     add-i
     add-j
     loop-less
     loop-again
     cut-off-requires
-    mul-a-2
-    array-set-from-a-2
+    put-link-requires-2
+    doom-tx-requires
     add-i-2
     add-j-2
     loop-less-2
     loop-again-2
+    doom-tx-requires-2
     add-i-3
     loop-less-3
     loop-again-3
@@ -186,10 +182,10 @@ close-own-spec =
     loop-less-4
     loop-again-4
     close-end-requires
-    mul-a-3
-    array-set-from-a-3
+    put-link-requires-3
     add-i-5
     add-j-3
     loop-less-5
     loop-again-5
+    keep-first-requires
     returns)

@@ -1,14 +1,21 @@
--- `returns::die_out` equals `diedOut`.
+-- `returns::die_out` meets its contract.
 -- Assumes nothing.
-use Rattle.monitor.proofs.Usual.{ap, sym, _∙_, needs, eq-eqb, ne-eqb, Monitor, endOwn, diedOut, pick-true, pick-false}
+use Rattle.monitor.proofs.Usual.{ℕ, _≡_, ap, sym, _∙_, needs, eq-eqb, ne-eqb, Monitor, party, closeOwn, endOwn, leave, diedOut, pick-true, pick-false}
 use Rattle.monitor.proofs.returns.die_out.Statement.{statement}
 use Rattle.monitor.proofs.returns.die_out.Tie as tie
 
-mul-q : tie.Need-mul-q
-mul-q c = search needs
+-- by the link d that the party serves
+module _ (m : Monitor) (p d : ℕ) (e : d ≡ party m p .served) where
+  idle : d ≡ 0 → endOwn (closeOwn m p) p ≡ diedOut m p
+  unfolding diedOut
+  idle h = sym (pick-true _ _ _ (eq-eqb _ _ (sym e ∙ h)))
 
-element-copy-out-q : tie.Need-element-copy-out-q
-element-copy-out-q c = search needs
+  serving : (d ≡ 0 → ⊥) → leave m p d 2 0 ≡ diedOut m p
+  unfolding diedOut
+  serving h = ap (λ (n : ℕ). leave m p n 2 0) e ∙ sym (pick-false _ _ _ (ne-eqb _ _ (λ z. h (e ∙ z))))
+
+served-at-requires : tie.Need-served-at-requires
+served-at-requires c κs = search needs
 
 close-own-requires : tie.Need-close-own-requires
 close-own-requires c κs = search needs
@@ -17,22 +24,22 @@ end-own-requires : tie.Need-end-own-requires
 end-own-requires c κs = search needs
 
 returns : tie.Need-returns
-unfolding diedOut
-returns c = c .end-own .ensures .0 ∙ ap (λ (m : Monitor). endOwn m (c .before .before .before .before .before .args .p)) (c .before .close-own .ensures .0) ∙ sym (pick-true _ _ _ (eq-eqb _ _ (c .before .before .if1 .taken)))
+returns c =
+    let s = c .before .before .before .before .before .before .before in
+    let d = c .before .before .before .before .before .served-at in
+    (c .end-own .ensures .0 ∙ ap (λ (m : Monitor). endOwn m (s .args .p)) (c .before .before .close-own .ensures .0) ∙ idle _ _ _ (d .ensures) (c .before .before .before .before .if1 .taken), c .end-own .ensures .1)
 
 leave-link-requires : tie.Need-leave-link-requires
 leave-link-requires c κs = search needs
 
 returns-2 : tie.Need-returns-2
-unfolding diedOut
-returns-2 c = c .leave-link .ensures ∙ sym (pick-false _ _ _ (ne-eqb _ _ (c .before .if1 .left)))
+returns-2 c = (c .leave-link .ensures .0 ∙ serving _ _ _ (c .before .before .before .served-at .ensures) (c .before .before .if1 .left), c .leave-link .ensures .1)
 
 pub die-out-spec : {M : Type 1} → statement M
 die-out-spec =
     tie.close
     (tie.spec
-    mul-q
-    element-copy-out-q
+    served-at-requires
     close-own-requires
     end-own-requires
     returns

@@ -1,25 +1,33 @@
--- `returns::end_own` equals `endOwn`.
+-- `returns::end_own` meets its contract.
 -- Assumes nothing.
-use Rattle.monitor.proofs.Usual.{sym, _∙_, needs, eq-eqb, ne-eqb, endOwn, pick-true, pick-false}
+use Rattle.monitor.proofs.Usual.{ℕ, ap, sym, _∙_, needs, eq-eqb, ne-eqb, firstOf, live, endOwn, view, ofTx, pick-true, pick-false}
 use Rattle.monitor.proofs.returns.end_own.Statement.{statement}
 use Rattle.monitor.proofs.returns.end_own.Tie as tie
 
-mul-q : tie.Need-mul-q
-mul-q c = search needs
-
-element-copy-out-q : tie.Need-element-copy-out-q
-element-copy-out-q c = search needs
+owned-at-requires : tie.Need-owned-at-requires
+owned-at-requires c κs = search needs
 
 returns : tie.Need-returns
 unfolding endOwn
-returns c = (sym (pick-true _ _ _ (eq-eqb _ _ (c .if1 .taken))), search needs)
+returns c =
+    let s = c .before .before .before in
+    (sym (pick-true _ _ _ (eq-eqb _ _ (sym (c .before .owned-at .ensures) ∙ c .if1 .taken))), s .pre .2, s .pre .1)
+
+first-of-tx-requires : tie.Need-first-of-tx-requires
+first-of-tx-requires c κs = search needs
 
 end-tx-requires : tie.Need-end-tx-requires
-end-tx-requires c κs = search needs
+end-tx-requires c κs =
+    let s = c .before .before .before .before .before .before in
+    let first = c .before .first-of-tx .ensures ∙ ap (λ (t : ℕ). firstOf (ofTx t) (live (view (s .args .s .now)))) (c .before .before .before .before .owned-at .ensures) in
+    (s .pre .0, s .pre .1, s .pre .2, first)
 
 returns-2 : tie.Need-returns-2
 unfolding endOwn
-returns-2 c = (c .end-tx .ensures .0 ∙ sym (pick-false _ _ _ (ne-eqb _ _ (c .before .if1 .left))), c .end-tx .ensures .1)
+returns-2 c =
+    let owns = ne-eqb _ _ (λ h. c .before .before .before .before .if1 .left (c .before .before .before .before .before .owned-at .ensures ∙ h)) in
+    (c .end-tx .ensures .0 ∙ sym (pick-false _ _ _ owns), c .end-tx .ensures .1, c .end-tx .ensures .2)
 
 pub end-own-spec : {M : Type 1} → statement M
-end-own-spec = tie.close (tie.spec mul-q element-copy-out-q returns end-tx-requires returns-2)
+end-own-spec =
+    tie.close (tie.spec owned-at-requires returns first-of-tx-requires end-tx-requires returns-2)

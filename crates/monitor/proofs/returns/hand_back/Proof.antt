@@ -1,6 +1,6 @@
--- `returns::hand_back` equals `handBack`.
+-- `returns::hand_back` meets its contract.
 -- Assumes nothing.
-use Rattle.monitor.proofs.Usual.{ℕ, _≡_, ap, sym, _∙_, needs, eq-eqb, ne-eqb, Link, Monitor, isAttached, linkOf, changed, removed, returned, handBack, pick-true, pick-false}
+use Rattle.monitor.proofs.Usual.{ℕ, _≡_, ap, sym, _∙_, needs, eq-eqb, ne-eqb, Link, Monitor, isAttached, linkOf, changed, removed, returned, handBack, view, pick-true, pick-false, live-of, changed-of}
 use Rattle.monitor.proofs.returns.hand_back.Statement.{statement}
 use Rattle.monitor.proofs.returns.hand_back.Tie as tie
 
@@ -13,27 +13,41 @@ module _ (m : Monitor) (d o e : ℕ) (l : Link) (p : l ≡ linkOf m d) where
   unfolding handBack
   goes h = pick-false _ _ _ (ap isAttached (sym p) ∙ ne-eqb _ _ h)
 
-link-of-requires : tie.Need-link-of-requires
-link-of-requires c κs = search needs
+place-of-requires : tie.Need-place-of-requires
+place-of-requires c κs = search needs
 
-change-requires : tie.Need-change-requires
-change-requires c κs = search needs
+live-at-requires : tie.Need-live-at-requires
+live-at-requires c κs = search needs
+
+change-at-requires : tie.Need-change-at-requires
+change-at-requires c κs = search needs
 
 returns : tie.Need-returns
 returns c =
-    let a = c .before .before .before .before .args in
-    let l = c .before .before .before .link-of in
-    c .change .ensures .0 ∙ sym (returns-to-originator (a .m) (a .d) (a .o) (a .e) (l .result) (l .ensures) (c .before .if1 .taken))
+    let a = c .before .before .before .before .before .before .before .before .args in
+    let m = view (a .s .now) in
+    let i = c .before .before .before .before .before .before .place-of in
+    let l = c .before .before .before .before .live-at in
+    (c .change-at .ensures .0 ∙ changed-of m (a .d) (i .result) (i .ensures) (returned (l .result) (a .o) (a .e)) ∙ sym (returns-to-originator m (a .d) (a .o) (a .e) (l .result) (l .ensures ∙ live-of m (a .d) (i .result) (i .ensures)) (c .before .before .if1 .taken)), c .change-at .ensures .1)
 
-remove-requires : tie.Need-remove-requires
-remove-requires c κs = search needs
+remove-at-requires : tie.Need-remove-at-requires
+remove-at-requires c κs = search needs
 
 returns-2 : tie.Need-returns-2
 returns-2 c =
-    let a = c .before .before .before .before .args in
-    let l = c .before .before .before .link-of in
-    c .remove .ensures .0 ∙ sym (goes (a .m) (a .d) (a .o) (a .e) (l .result) (l .ensures) (c .before .if1 .left))
+    let a = c .before .before .before .before .before .before .before .before .args in
+    let m = view (a .s .now) in
+    let i = c .before .before .before .before .before .before .place-of in
+    let l = c .before .before .before .before .live-at in
+    (c .remove-at .ensures .0 ∙ sym (goes m (a .d) (a .o) (a .e) (l .result) (l .ensures ∙ live-of m (a .d) (i .result) (i .ensures)) (c .before .before .if1 .left)), c .remove-at .ensures .1)
 
 pub hand-back-spec : {M : Type 1} → statement M
 hand-back-spec =
-    tie.close (tie.spec link-of-requires change-requires returns remove-requires returns-2)
+    tie.close
+    (tie.spec
+    place-of-requires
+    live-at-requires
+    change-at-requires
+    returns
+    remove-at-requires
+    returns-2)

@@ -1,17 +1,30 @@
--- `returns::leave_link` equals `leave`: the steps one after the other, each an equation on the record.
+-- `returns::leave_link` meets its contract: the steps one after the other, each an equation on the record.
 -- Assumes nothing.
-use Rattle.monitor.proofs.Usual.{ap, ap₂, _∙_, needs, Link, Monitor, changed, unreadAfter, closeOwn, endOwn, doomServed, servesNone, handBack, leave, doom-served-room, serves-none-room}
+use Rattle.monitor.proofs.Usual.{ℕ, _≤_, ap, ap₂, _∙_, needs, Link, Monitor, changed, unreadAfter, closeOwn, endOwn, doomServed, servesNone, handBack, leave, view, live-of, changed-of, count-kept}
+use Rattle.rules.proofs.Logic.{byTest}
 use Rattle.monitor.proofs.returns.leave_link.Statement.{statement}
 use Rattle.monitor.proofs.returns.leave_link.Tie as tie
 
-link-of-requires : tie.Need-link-of-requires
-link-of-requires c κs = search needs
+-- neither step changes how many links there are
+doom-served-room : (o t : ℕ) (m : Monitor) → m .count ≤ 32 → doomServed o t m .count ≤ 32
+unfolding doomServed
+doom-served-room o t m h = byTest (λ (n : Monitor). n .count ≤ 32) (λ _. h) (λ _. h)
+
+serves-none-room : (m : Monitor) (p : ℕ) → m .count ≤ 32 → servesNone m p .count ≤ 32
+unfolding servesNone
+serves-none-room m p h = h
+
+place-of-requires : tie.Need-place-of-requires
+place-of-requires c κs = search needs
+
+live-at-requires : tie.Need-live-at-requires
+live-at-requires c κs = search needs
 
 unread-after-requires : tie.Need-unread-after-requires
 unread-after-requires c κs = search needs
 
-change-requires : tie.Need-change-requires
-change-requires c κs = search needs
+change-at-requires : tie.Need-change-at-requires
+change-at-requires c κs = search needs
 
 close-own-requires : tie.Need-close-own-requires
 close-own-requires c κs = search needs
@@ -26,28 +39,34 @@ serve-none-requires : tie.Need-serve-none-requires
 serve-none-requires c κs = search needs
 
 hand-back-requires : tie.Need-hand-back-requires
-hand-back-requires c κs = rw (c .serve-none .ensures, c .before .doom-served .ensures)
-    (serves-none-room _ _ (doom-served-room _ _ _ (c .before .before .end-own .ensures .1)))
+hand-back-requires c κs =
+    let doomed = count-kept (c .before .before .before .doom-served .ensures .0) (doom-served-room _ _ _ (c .before .before .before .before .before .end-own .ensures .2)) in
+    (count-kept (c .before .serve-none .ensures .0) (serves-none-room _ _ doomed), c .before .serve-none .ensures .1)
 
 returns : tie.Need-returns
 unfolding leave
 returns c =
-    let a = c .before .before .before .before .before .before .before .before .args in
-    let l = c .before .before .before .before .before .before .before .link-of in
-    let m₁ = c .before .before .before .before .before .change .ensures .0 ∙ ap (changed (a .m) (a .d)) (c .before .before .before .before .before .before .unread-after .ensures ∙ ap (unreadAfter (a .o)) (l .ensures)) in
-    let m₂ = c .before .before .before .before .close-own .ensures .0 ∙ ap (λ (m : Monitor). closeOwn m (a .p)) m₁ in
-    let m₃ = c .before .before .before .end-own .ensures .0 ∙ ap (λ (m : Monitor). endOwn m (a .p)) m₂ in
-    let m₄ = c .before .before .doom-served .ensures ∙ ap₂ (λ (k : Link) (m : Monitor). doomServed (a .o) (k .tx) m) (l .ensures) m₃ in
-    let m₅ = c .before .serve-none .ensures ∙ ap (λ (m : Monitor). servesNone m (a .p)) m₄ in
-    c .hand-back .ensures ∙ ap (λ (m : Monitor). handBack m (a .d) (a .o) (a .e)) m₅
+    let a = c .before .before .before .before .before .before .before .before .before .before .before .before .before .before .before .before .before .args in
+    let m = view (a .s .now) in
+    let i = c .before .before .before .before .before .before .before .before .before .before .before .before .before .before .before .place-of in
+    let l = c .before .before .before .before .before .before .before .before .before .before .before .before .before .live-at in
+    let e = l .ensures ∙ live-of m (a .d) (i .result) (i .ensures) in
+    let k = c .before .before .before .before .before .before .before .before .before .before .before .before .unread-after in
+    let m₁ = c .before .before .before .before .before .before .before .before .before .before .change-at .ensures .0 ∙ changed-of m (a .d) (i .result) (i .ensures) (k .result) ∙ ap (changed m (a .d)) (k .ensures ∙ ap (unreadAfter (a .o)) e) in
+    let m₂ = c .before .before .before .before .before .before .before .before .close-own .ensures .0 ∙ ap (λ (n : Monitor). closeOwn n (a .p)) m₁ in
+    let m₃ = c .before .before .before .before .before .before .end-own .ensures .0 ∙ ap (λ (n : Monitor). endOwn n (a .p)) m₂ in
+    let m₄ = c .before .before .before .before .doom-served .ensures .0 ∙ ap₂ (λ (x : Link) (n : Monitor). doomServed (a .o) (x .tx) n) e m₃ in
+    let m₅ = c .before .before .serve-none .ensures .0 ∙ ap (λ (n : Monitor). servesNone n (a .p)) m₄ in
+    (c .hand-back .ensures .0 ∙ ap (λ (n : Monitor). handBack n (a .d) (a .o) (a .e)) m₅, c .hand-back .ensures .1)
 
 pub leave-link-spec : {M : Type 1} → statement M
 leave-link-spec =
     tie.close
     (tie.spec
-    link-of-requires
+    place-of-requires
+    live-at-requires
     unread-after-requires
-    change-requires
+    change-at-requires
     close-own-requires
     end-own-requires
     doom-served-requires

@@ -1,19 +1,19 @@
--- `returns::outcome_of` equals `outcomeOf`: an outcome for each early return.
+-- `returns::outcome_of` meets its contract: an outcome for each early return.
 -- Assumes nothing.
-use Rattle.monitor.proofs.Usual.{ℕ, _≡_, ap, sym, _∙_, Bool, true, false, not, _&&_, _||_, needs, eq-eqb, ne-eqb, eqb, Link, Monitor, pick, anyOf, isServerFree, party, live, ownEnd, plainOutcome, outcomeOf, pick-true, pick-false}
+use Rattle.monitor.proofs.Usual.{ℕ, _≡_, ap, ap₂, sym, _∙_, Bool, true, false, not, _&&_, _||_, needs, eq-eqb, ne-eqb, eqb, Link, Monitor, pick, anyOf, isServerFree, party, live, ownEnd, plainOutcome, outcomeOf, pick-true, pick-false}
 use Rattle.monitor.proofs.returns.outcome_of.Statement.{statement}
 use Rattle.monitor.proofs.returns.outcome_of.Tie as tie
 
--- by the first question, asked with what `has_own_end` gave
-module _ (m : Monitor) (p a c : ℕ) (l : Link) (ends : Bool) (e : ends ≡ anyOf (ownEnd p) (live m)) where
-  asked : (b : Bool) → ends || not (eqb (party m p .owned) 0) ≡ b → anyOf (ownEnd p) (live m) || not (eqb (party m p .owned) 0) ≡ b
-  asked b t = ap (λ (x : Bool). x || not (eqb (party m p .owned) 0)) (sym e) ∙ t
+-- by the first question, asked with what `has_own_end` and `owned_at` gave
+module _ (m : Monitor) (p a c : ℕ) (l : Link) (ends : Bool) (owned : ℕ) (e : ends ≡ anyOf (ownEnd p) (live m)) (f : owned ≡ party m p .owned) where
+  asked : (b : Bool) → ends || not (eqb owned 0) ≡ b → anyOf (ownEnd p) (live m) || not (eqb (party m p .owned) 0) ≡ b
+  asked b t = ap₂ (λ (x : Bool) (n : ℕ). x || not (eqb n 0)) (sym e) (sym f) ∙ t
 
-  unsettled : ends || not (eqb (party m p .owned) 0) ≡ true → outcomeOf m p a c l ≡ 2
+  unsettled : ends || not (eqb owned 0) ≡ true → outcomeOf m p a c l ≡ 2
   unfolding outcomeOf
   unsettled t = pick-true _ _ _ (asked true t)
 
-  module _ (t : ends || not (eqb (party m p .owned) 0) ≡ false) where
+  module _ (t : ends || not (eqb owned 0) ≡ false) where
     of-request : (l .kind ≡ 1 → ⊥) → outcomeOf m p a c l ≡ plainOutcome a
     unfolding outcomeOf
     of-request k = pick-false _ _ _ (asked false t) ∙ pick-false _ _ _ (ne-eqb _ _ k)
@@ -26,26 +26,23 @@ module _ (m : Monitor) (p a c : ℕ) (l : Link) (ends : Bool) (e : ends ≡ anyO
     unfolding outcomeOf
     by-holder k d = pick-false _ _ _ (asked false t) ∙ pick-true _ _ _ (eq-eqb _ _ k) ∙ pick-false _ _ _ (ap not (eq-eqb _ _ d))
 
-mul-q : tie.Need-mul-q
-mul-q c = search needs
-
-element-copy-out-q : tie.Need-element-copy-out-q
-element-copy-out-q c = search needs
+owned-at-requires : tie.Need-owned-at-requires
+owned-at-requires c κs = search needs
 
 has-own-end-requires : tie.Need-has-own-end-requires
 has-own-end-requires c κs = search needs
 
 returns : tie.Need-returns
-returns c = sym (unsettled _ _ _ _ _ _ (c .before .before .has-own-end .ensures) (c .if1 .taken))
+returns c = sym (unsettled _ _ _ _ _ _ _ (c .before .has-own-end .ensures) (c .before .before .owned-at .ensures) (c .if1 .taken))
 
 plain-outcome-requires : tie.Need-plain-outcome-requires
 plain-outcome-requires c κs = search needs
 
 returns-2 : tie.Need-returns-2
-returns-2 c = c .plain-outcome .ensures ∙ sym (of-request _ _ _ _ _ _ (c .before .before .before .before .before .has-own-end .ensures) (c .before .before .before .if1 .left) (c .before .if2 .taken))
+returns-2 c = c .plain-outcome .ensures ∙ sym (of-request _ _ _ _ _ _ _ (c .before .before .before .before .has-own-end .ensures) (c .before .before .before .before .before .owned-at .ensures) (c .before .before .before .if1 .left) (c .before .if2 .taken))
 
 returns-3 : tie.Need-returns-3
-returns-3 c = sym (of-cut _ _ _ _ _ _ (c .before .before .before .before .before .before .has-own-end .ensures) (c .before .before .before .before .if1 .left) (c .before .before .if2 .left) (c .if3 .taken))
+returns-3 c = sym (of-cut _ _ _ _ _ _ _ (c .before .before .before .before .before .has-own-end .ensures) (c .before .before .before .before .before .before .owned-at .ensures) (c .before .before .before .before .if1 .left) (c .before .before .if2 .left) (c .if3 .taken))
 
 is-server-free-requires : tie.Need-is-server-free-requires
 is-server-free-requires c κs = search needs
@@ -54,20 +51,19 @@ plain-outcome-requires-2 : tie.Need-plain-outcome-requires-2
 plain-outcome-requires-2 c κs = search needs
 
 returns-4 : tie.Need-returns-4
-returns-4 c = c .plain-outcome2 .ensures ∙ sym (by-holder _ _ _ _ _ _ (c .before .before .before .before .before .before .before .before .before .has-own-end .ensures) (c .before .before .before .before .before .before .before .if1 .left) (c .before .before .before .before .before .if2 .left) (c .before .before .before .if3 .left) ∙ pick-true _ _ _ (sym (c .before .before .is-server-free .ensures) ∙ c .before .if4 .taken))
+returns-4 c = c .plain-outcome2 .ensures ∙ sym (by-holder _ _ _ _ _ _ _ (c .before .before .before .before .before .before .before .before .has-own-end .ensures) (c .before .before .before .before .before .before .before .before .before .owned-at .ensures) (c .before .before .before .before .before .before .before .if1 .left) (c .before .before .before .before .before .if2 .left) (c .before .before .before .if3 .left) ∙ pick-true _ _ _ (sym (c .before .before .is-server-free .ensures) ∙ c .before .if4 .taken))
 
 returns-5 : tie.Need-returns-5
-returns-5 c = sym (by-holder _ _ _ _ _ _ (c .before .before .before .before .before .before .before .before .before .has-own-end .ensures) (c .before .before .before .before .before .before .before .if1 .left) (c .before .before .before .before .before .if2 .left) (c .before .before .before .if3 .left) ∙ pick-false _ _ _ (sym (c .before .before .is-server-free .ensures) ∙ c .before .if4 .left) ∙ pick-true _ _ _ (c .if5 .taken))
+returns-5 c = sym (by-holder _ _ _ _ _ _ _ (c .before .before .before .before .before .before .before .before .has-own-end .ensures) (c .before .before .before .before .before .before .before .before .before .owned-at .ensures) (c .before .before .before .before .before .before .before .if1 .left) (c .before .before .before .before .before .if2 .left) (c .before .before .before .if3 .left) ∙ pick-false _ _ _ (sym (c .before .before .is-server-free .ensures) ∙ c .before .if4 .left) ∙ pick-true _ _ _ (c .if5 .taken))
 
 returns-6 : tie.Need-returns-6
-returns-6 c = sym (by-holder _ _ _ _ _ _ (c .before .before .before .before .before .before .before .before .before .has-own-end .ensures) (c .before .before .before .before .before .before .before .if1 .left) (c .before .before .before .before .before .if2 .left) (c .before .before .before .if3 .left) ∙ pick-false _ _ _ (sym (c .before .before .is-server-free .ensures) ∙ c .before .if4 .left) ∙ pick-false _ _ _ (c .if5 .left))
+returns-6 c = sym (by-holder _ _ _ _ _ _ _ (c .before .before .before .before .before .before .before .before .has-own-end .ensures) (c .before .before .before .before .before .before .before .before .before .owned-at .ensures) (c .before .before .before .before .before .before .before .if1 .left) (c .before .before .before .before .before .if2 .left) (c .before .before .before .if3 .left) ∙ pick-false _ _ _ (sym (c .before .before .is-server-free .ensures) ∙ c .before .if4 .left) ∙ pick-false _ _ _ (c .if5 .left))
 
 pub outcome-of-spec : {M : Type 1} → statement M
 outcome-of-spec =
     tie.close
     (tie.spec
-    mul-q
-    element-copy-out-q
+    owned-at-requires
     has-own-end-requires
     returns
     plain-outcome-requires

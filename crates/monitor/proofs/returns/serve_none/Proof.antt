@@ -1,24 +1,21 @@
--- `returns::serve_none` equals `servesNone`.
+-- `returns::serve_none` meets its contract.
 -- Assumes nothing.
-use Rattle.monitor.proofs.Usual.{refl, needs, servesNone}
+use Rattle.monitor.proofs.Usual.{ap, _∙_, needs, Party, withParty, servesNone, view}
+use Rattle.rules.specs.Record.{serving}
 use Rattle.monitor.proofs.returns.serve_none.Statement.{statement}
 use Rattle.monitor.proofs.returns.serve_none.Tie as tie
 
-mul-q : tie.Need-mul-q
-mul-q c = search needs
+party-at-requires : tie.Need-party-at-requires
+party-at-requires c κs = search needs
 
-element-copy-out-q : tie.Need-element-copy-out-q
-element-copy-out-q c = search needs
-
-mul-q-2 : tie.Need-mul-q-2
-mul-q-2 c = search needs
-
-element-set-from-q : tie.Need-element-set-from-q
-element-set-from-q c = search needs
+put-party-requires : tie.Need-put-party-requires
+put-party-requires c κs = search needs
 
 returns : tie.Need-returns
 unfolding servesNone
-returns c = refl
+returns c =
+    let a = c .before .before .before .before .args in
+    (c .put-party .ensures .0 ∙ ap (λ (q : Party). withParty (view (a .s .now)) (a .p) (serving q 0)) (c .before .before .party-at .ensures), c .put-party .ensures .1)
 
 pub serve-none-spec : {M : Type 1} → statement M
-serve-none-spec = tie.close (tie.spec mul-q element-copy-out-q mul-q-2 element-set-from-q returns)
+serve-none-spec = tie.close (tie.spec party-at-requires put-party-requires returns)

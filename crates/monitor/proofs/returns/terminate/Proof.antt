@@ -1,18 +1,15 @@
--- `returns::terminate` equals `terminateOf`.
+-- `returns::terminate` meets its contract.
 -- Assumes nothing.
-use Rattle.monitor.proofs.Usual.{ℕ, _≡_, ap₂, sym, _∙_, needs, eq-eqb, ne-eqb, Party, Monitor, freshParty, withParty, valued, diedOut, terminateOf, pick-true, pick-false}
+use Rattle.monitor.proofs.Usual.{ℕ, _≡_, ap, ap₂, sym, _∙_, needs, eq-eqb, ne-eqb, Party, Monitor, freshParty, withParty, valued, diedOut, terminateOf, Told, toldValue, ruledBy, pick-true, pick-false}
 use Rattle.monitor.proofs.returns.terminate.Statement.{statement}
 use Rattle.monitor.proofs.returns.terminate.Tie as tie
 
--- the record with the party fresh, as the code comes to it
-freshened : (m n k : Monitor) (p : ℕ) (q : Party) → k ≡ withParty n p q → q ≡ freshParty → n ≡ diedOut m p → k ≡ withParty (diedOut m p) p freshParty
-freshened m n k p q e f d = e ∙ ap₂ (λ (x : Monitor) (y : Party). withParty x p y) d f
+-- what is told, with the party fresh, as the code comes to it
+put-together : (m n k : Monitor) (p v w : ℕ) (q : Party) (r : Told) → n ≡ diedOut m p → q ≡ freshParty → k ≡ withParty n p q → r ≡ toldValue v → v ≡ w → ruledBy r k ≡ valued (withParty (diedOut m p) p freshParty) w
+put-together m n k p v w q r d f e h i = ap (λ (t : Told). ruledBy t k) h ∙ ap₂ valued (e ∙ ap₂ (λ (x : Monitor) (y : Party). withParty x p y) d f) i
 
-mul-q : tie.Need-mul-q
-mul-q c = search needs
-
-element-copy-out-q : tie.Need-element-copy-out-q
-element-copy-out-q c = search needs
+served-at-requires : tie.Need-served-at-requires
+served-at-requires c κs = search needs
 
 die-out-requires : tie.Need-die-out-requires
 die-out-requires c κs = search needs
@@ -20,32 +17,35 @@ die-out-requires c κs = search needs
 fresh-requires : tie.Need-fresh-requires
 fresh-requires c κs = search needs
 
-set-party-requires : tie.Need-set-party-requires
-set-party-requires c κs = search needs
+put-party-requires : tie.Need-put-party-requires
+put-party-requires c κs = search needs
 
 accept-requires : tie.Need-accept-requires
 accept-requires c κs = search needs
 
 returns : tie.Need-returns
 unfolding terminateOf
-returns c = c .accept .ensures ∙ ap₂ valued (freshened _ _ _ _ _ (c .before .before .before .set-party .ensures) (c .before .before .before .before .fresh .ensures) (c .before .before .before .before .before .die-out .ensures)) (sym (pick-true _ _ _ (eq-eqb _ _ (c .before .if1 .taken))))
+returns c =
+    let serves-none = eq-eqb _ _ (sym (c .before .before .before .before .before .before .before .served-at .ensures) ∙ c .before .if1 .taken) in
+    (put-together _ _ _ _ _ _ _ _ (c .before .before .before .before .before .die-out .ensures .0) (c .before .before .before .before .fresh .ensures) (c .before .before .put-party .ensures .0) (c .accept .ensures) (sym (pick-true _ _ _ serves-none)), c .before .before .put-party .ensures .1)
 
 accept-requires-2 : tie.Need-accept-requires-2
 accept-requires-2 c κs = search needs
 
 returns-2 : tie.Need-returns-2
 unfolding terminateOf
-returns-2 c = c .accept2 .ensures ∙ ap₂ valued (freshened _ _ _ _ _ (c .before .before .before .set-party .ensures) (c .before .before .before .before .fresh .ensures) (c .before .before .before .before .before .die-out .ensures)) (sym (pick-false _ _ _ (ne-eqb _ _ (c .before .if1 .left))))
+returns-2 c =
+    let serves = ne-eqb _ _ (λ h. c .before .if1 .left (c .before .before .before .before .before .before .before .served-at .ensures ∙ h)) in
+    (put-together _ _ _ _ _ _ _ _ (c .before .before .before .before .before .die-out .ensures .0) (c .before .before .before .before .fresh .ensures) (c .before .before .put-party .ensures .0) (c .accept2 .ensures) (sym (pick-false _ _ _ serves)), c .before .before .put-party .ensures .1)
 
 pub terminate-spec : {M : Type 1} → statement M
 terminate-spec =
     tie.close
     (tie.spec
-    mul-q
-    element-copy-out-q
+    served-at-requires
     die-out-requires
     fresh-requires
-    set-party-requires
+    put-party-requires
     accept-requires
     returns
     accept-requires-2

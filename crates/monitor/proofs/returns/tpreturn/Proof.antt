@@ -1,6 +1,6 @@
--- `returns::tpreturn` equals `returnOf`.
+-- `returns::tpreturn` meets its contract.
 -- Assumes nothing.
-use Rattle.monitor.proofs.Usual.{ℕ, _≡_, ap, sym, _∙_, true, not, _||_, needs, eq-eqb, ne-eqb, not-true, not-false, eqb, Link, Monitor, Ruled, party, linkOf, outcomeOf, returnWith, returnOf, pick-true, pick-false}
+use Rattle.monitor.proofs.Usual.{ℕ, _≡_, ap, sym, _∙_, true, not, _||_, needs, eq-eqb, ne-eqb, not-true, not-false, eqb, Link, Monitor, Ruled, party, linkOf, outcomeOf, returnWith, returnOf, Told, view, ruledBy, pick-true, pick-false, live-of}
 use Rattle.monitor.proofs.returns.tpreturn.Statement.{statement}
 use Rattle.monitor.proofs.returns.tpreturn.Tie as tie
 
@@ -11,28 +11,34 @@ returns-well m p a c l o r s g e f h =
     ∙ ap (λ (x : ℕ). returnWith m p x c) (f ∙ ap (outcomeOf m p a c) e)
     ∙ sym (pick-true _ _ _ (ap not (ne-eqb _ _ s)) ∙ pick-true _ _ _ g)
 
-mul-q : tie.Need-mul-q
-mul-q c = search needs
-
-element-copy-out-q : tie.Need-element-copy-out-q
-element-copy-out-q c = search needs
+served-at-requires : tie.Need-served-at-requires
+served-at-requires c κs = search needs
 
 coded-requires : tie.Need-coded-requires
 coded-requires c κs = search needs
 
 returns : tie.Need-returns
 unfolding returnOf
-returns c = c .coded .ensures ∙ sym (pick-false _ _ _ (ap not (eq-eqb _ _ (c .before .if1 .taken))))
+returns c =
+    let s = c .before .before .before .before in
+    let serves-none = eq-eqb _ _ (sym (c .before .before .served-at .ensures) ∙ c .before .if1 .taken) in
+    (ap (λ (t : Told). ruledBy t (view (s .args .s .now))) (c .coded .ensures) ∙ sym (pick-false _ _ _ (ap not serves-none)), s .pre .2)
 
 coded-requires-2 : tie.Need-coded-requires-2
 coded-requires-2 c κs = search needs
 
 returns-2 : tie.Need-returns-2
 unfolding returnOf
-returns-2 c = c .coded2 .ensures ∙ sym (pick-true _ _ _ (ap not (ne-eqb _ _ (c .before .before .if1 .left))) ∙ pick-false _ _ _ (not-true _ (c .before .if2 .taken)))
+returns-2 c =
+    let s = c .before .before .before .before .before in
+    let serves = ne-eqb _ _ (λ h. c .before .before .if1 .left (c .before .before .before .served-at .ensures ∙ h)) in
+    (ap (λ (t : Told). ruledBy t (view (s .args .s .now))) (c .coded2 .ensures) ∙ sym (pick-true _ _ _ (ap not serves) ∙ pick-false _ _ _ (not-true _ (c .before .if2 .taken))), s .pre .2)
 
-link-of-requires : tie.Need-link-of-requires
-link-of-requires c κs = search needs
+place-of-requires : tie.Need-place-of-requires
+place-of-requires c κs = search needs
+
+live-at-requires : tie.Need-live-at-requires
+live-at-requires c κs = search needs
 
 outcome-of-requires : tie.Need-outcome-of-requires
 outcome-of-requires c κs = search needs
@@ -41,19 +47,26 @@ return-with-requires : tie.Need-return-with-requires
 return-with-requires c κs = search needs
 
 returns-3 : tie.Need-returns-3
-returns-3 c = returns-well _ _ _ _ _ _ _ (c .before .before .before .before .if1 .left) (not-false _ (c .before .before .before .if2 .left)) (c .before .before .link-of .ensures) (c .before .outcome-of .ensures) (c .return-with .ensures)
+returns-3 c =
+    let a = c .before .before .before .before .before .before .before .before .before .before .before .before .args in
+    let m = view (a .s .now) in
+    let d = c .before .before .before .before .before .before .before .before .before .before .served-at in
+    let i = c .before .before .before .before .before .before .place-of in
+    let l = c .before .before .before .before .live-at in
+    let e = l .ensures ∙ live-of m (d .result) (i .result) (i .ensures) ∙ ap (linkOf m) (d .ensures) in
+    (returns-well m (a .p) (a .a) (a .c) (l .result) _ _ (λ h. c .before .before .before .before .before .before .before .before .before .if1 .left (d .ensures ∙ h)) (not-false _ (c .before .before .before .before .before .before .before .before .if2 .left)) e (c .before .before .outcome-of .ensures) (c .return-with .ensures .0), c .return-with .ensures .1)
 
 pub tpreturn-spec : {M : Type 1} → statement M
 tpreturn-spec =
     tie.close
     (tie.spec
-    mul-q
-    element-copy-out-q
+    served-at-requires
     coded-requires
     returns
     coded-requires-2
     returns-2
-    link-of-requires
+    place-of-requires
+    live-at-requires
     outcome-of-requires
     return-with-requires
     returns-3)

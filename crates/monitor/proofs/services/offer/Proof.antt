@@ -1,20 +1,15 @@
--- `offer` meets its contract, by that of `service_count`.
+-- `services::offer` meets its contract, by that of `service_count`.
 -- Assumes nothing.
-use Rattle.monitor.proofs.Usual.{ap, _∙_, needs, valued, offersNow}
+use Rattle.monitor.proofs.Usual.{ap, ap₂, _∙_, needs, Party, withParty, offersNow, view, ruledBy, toldValue}
+use Rattle.rules.specs.Record.{offering}
 use Rattle.monitor.proofs.services.offer.Statement.{statement}
 use Rattle.monitor.proofs.services.offer.Tie as tie
 
-mul-q : tie.Need-mul-q
-mul-q c = search needs
+party-at-requires : tie.Need-party-at-requires
+party-at-requires c κs = search needs
 
-element-copy-out-q : tie.Need-element-copy-out-q
-element-copy-out-q c = search needs
-
-mul-q-2 : tie.Need-mul-q-2
-mul-q-2 c = search needs
-
-element-set-from-q : tie.Need-element-set-from-q
-element-set-from-q c = search needs
+put-party-requires : tie.Need-put-party-requires
+put-party-requires c κs = search needs
 
 service-count-requires : tie.Need-service-count-requires
 service-count-requires c κs = search needs
@@ -24,16 +19,14 @@ accept-requires c κs = search needs
 
 returns : tie.Need-returns
 unfolding offersNow
-returns c = c .accept .ensures ∙ ap (valued _) (c .before .service-count .ensures)
+returns c =
+    let a = c .before .before .before .before .before .before .args in
+    let put = c .before .before .put-party .ensures in
+    let told = c .accept .ensures ∙ ap toldValue (c .before .service-count .ensures) in
+    let n = put .0 ∙ ap (λ (q : Party). withParty (view (a .s .now)) (a .p) (offering q (a .set))) (c .before .before .before .before .party-at .ensures) in
+    (ap₂ ruledBy told n, put .1)
 
 pub offer-spec : {M : Type 1} → statement M
 offer-spec =
     tie.close
-    (tie.spec
-    mul-q
-    element-copy-out-q
-    mul-q-2
-    element-set-from-q
-    service-count-requires
-    accept-requires
-    returns)
+    (tie.spec party-at-requires put-party-requires service-count-requires accept-requires returns)

@@ -25,13 +25,13 @@ add-result : tie.Need-add-result
 add-result c =
     let a = c .before .before .args in
     let e = shifted (a .a) (omega arith) (omega arith) in
-    rw e (record { fits = joins (a .s) (a .a) (omega arith) (omega arith) (c .before .before .fits .s .fits) (sym (c .before .in-set .ensures) ∙ c .if1 .left) })
+    rw e (record { fits = joins (a .set) (a .a) (omega arith) (omega arith) (c .before .before .fits .set .fits) (sym (c .before .in-set .ensures) ∙ c .if1 .left) })
 
 returns-2 : tie.Need-returns-2
 unfolding withService
 returns-2 c =
     let a = c .before .before .args in
-    ap (λ (x : ℕ). a .s + x) (shifted (a .a) (omega arith) (omega arith)) ∙ sym (pick-false _ _ _ (sym (c .before .in-set .ensures) ∙ c .if1 .left))
+    ap (λ (x : ℕ). a .set + x) (shifted (a .a) (omega arith) (omega arith)) ∙ sym (pick-false _ _ _ (sym (c .before .in-set .ensures) ∙ c .if1 .left))
 
 pub with-service-spec : {M : Type 1} → statement M
 with-service-spec =

@@ -17,7 +17,7 @@ shl-result c = search needs
 sub-result-2 : tie.Need-sub-result-2
 sub-result-2 c =
     let a = c .args in
-    rw (shifted (a .a) (omega arith) (omega arith)) (leaves (a .s) (a .a) (omega arith) (omega arith) (c .pre .2))
+    rw (shifted (a .a) (omega arith) (omega arith)) (leaves (a .set) (a .a) (omega arith) (omega arith) (c .pre .2))
 
 returns : tie.Need-returns
 returns c =

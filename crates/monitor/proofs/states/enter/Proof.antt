@@ -1,31 +1,25 @@
 -- `states::enter` meets its contract.
--- Assumes nothing.
-use Rattle.monitor.proofs.Usual.{ap, needs, withParty, entered}
+use Rattle.monitor.proofs.Usual.{ap, _∙_, needs, Party, withParty, inState, entered, view}
 use Rattle.monitor.proofs.states.enter.Statement.{statement}
 use Rattle.monitor.proofs.states.enter.Tie as tie
 
-mul-q : tie.Need-mul-q
-mul-q c = search needs
-
-element-copy-out-q : tie.Need-element-copy-out-q
-element-copy-out-q c = search needs
+party-at-requires : tie.Need-party-at-requires
+party-at-requires c κs = search needs
 
 in-state-requires : tie.Need-in-state-requires
 in-state-requires c κs = search needs
 
-mul-k : tie.Need-mul-k
-mul-k c = search needs
-
-element-set-from-k : tie.Need-element-set-from-k
-element-set-from-k c = search needs
+put-party-requires : tie.Need-put-party-requires
+put-party-requires c κs = search needs
 
 returns : tie.Need-returns
 unfolding entered
 returns c =
-    let a = c .before .before .args in
-    ap (withParty (a .t1) (a .p)) (c .in-state .ensures)
+    let a = c .before .before .before .before .before .args in (
+      c .put-party .ensures .0
+          ∙ ap (withParty (view (a .s .now)) (a .p)) (c .before .before .in-state .ensures ∙ ap (λ (q : Party). inState q (a .state)) (c .before .before .before .party-at .ensures)),
+      c .put-party .ensures .1,
+    )
 
 pub enter-spec : {M : Type 1} → statement M
-enter-spec =
-    tie.close
-    (tie.spec mul-q element-copy-out-q in-state-requires mul-k element-set-from-k returns)
+enter-spec = tie.close (tie.spec party-at-requires in-state-requires put-party-requires returns)

@@ -1,6 +1,6 @@
 -- `states::in_state` meets its contract.
 -- Assumes nothing.
-use Rattle.monitor.proofs.Usual.{needs, inState}
+use Rattle.monitor.proofs.Usual.{needs, withSettings, inState}
 use Rattle.monitor.proofs.states.in_state.Statement.{statement}
 use Rattle.monitor.proofs.states.in_state.Tie as tie
 
@@ -14,7 +14,7 @@ returns : tie.Need-returns
 unfolding inState
 returns c =
     let q = c .before .before .args .q in
-    λ i. record { opened = c .before .opened-in .ensures i; control = c .control-in .ensures i; timeout = q .timeout; services = q .services; owned = q .owned; deadline = q .deadline; rollbackonly = q .rollbackonly; served = q .served }
+    λ i. withSettings q (c .before .opened-in .ensures i) (c .control-in .ensures i) (q .timeout) (q .services)
 
 pub in-state-spec : {M : Type 1} → statement M
 in-state-spec = tie.close (tie.spec opened-in-requires control-in-requires returns)

@@ -1,5 +1,4 @@
 -- `states::state_after` meets its contract.
--- Assumes nothing.
 use Rattle.monitor.proofs.Usual.{ap, _∙_, needs, nextOf}
 use Rattle.monitor.proofs.states.state_after.Statement.{statement}
 use Rattle.monitor.proofs.states.state_after.Tie as tie

@@ -1,6 +1,7 @@
 -- `steps::call_on` meets its contract.
--- Assumes nothing.
-use Rattle.monitor.proofs.Usual.{ap, sym, _∙_, arith, needs, le-leb, lt-leb, not-true, not-false, Monitor, Ruled, Stepped, ruleOf, told, turnedDown, callOf, pick-true, pick-false, HasRoom, rule-room}
+use Rattle.monitor.proofs.Usual.{ap, sym, _∙_, arith, needs, lt-leb, not-true, not-false, Stepped, sound, turnedDown, callOf, view, stepped, pick-true, pick-false, count-kept, sound-room}
+use Rattle.rules.specs.declared.Answer.{Answer}
+use Rattle.monitor.proofs.Steady.{call-sound, told-call, rule-room}
 use Rattle.monitor.proofs.steps.call_on.Statement.{statement}
 use Rattle.monitor.proofs.steps.call_on.Tie as tie
 
@@ -9,17 +10,24 @@ turn-down-requires c κs = search needs
 
 returns : tie.Need-returns
 unfolding callOf turnedDown
-returns c = (c .turn-down .ensures ∙ sym (pick-false _ _ _ (not-true _ (c .before .if1 .taken))), omega (arith, ap (λ (s : Stepped). s .monitor .count) (c .turn-down .ensures)))
+returns c =
+    let m = view (c .before .before .before .before .args .s .now) in
+    let h = c .before .before .before .before .pre in
+    (ap (λ (r : Answer). stepped r m) (c .turn-down .ensures) ∙ sym (pick-false _ _ _ (not-true _ (c .before .if1 .taken))), h .0, h .1)
 
 turn-down-requires-2 : tie.Need-turn-down-requires-2
 turn-down-requires-2 c κs = search needs
 
 returns-2 : tie.Need-returns-2
 unfolding callOf turnedDown
-returns-2 c = (
-  c .turn-down2 .ensures ∙ sym (pick-true _ _ _ (not-false _ (c .before .before .before .if1 .left)) ∙ pick-false _ _ _ (lt-leb _ _ (c .before .if2 .taken))),
-  omega (arith, ap (λ (s : Stepped). s .monitor .count) (c .turn-down2 .ensures)),
-)
+returns-2 c =
+    let m = view (c .before .before .before .before .before .before .args .s .now) in
+    let h = c .before .before .before .before .before .before .pre in (
+      ap (λ (r : Answer). stepped r m) (c .turn-down2 .ensures)
+          ∙ sym (pick-true _ _ _ (not-false _ (c .before .before .before .if1 .left)) ∙ pick-false _ _ _ (lt-leb _ _ (c .before .if2 .taken))),
+      h .0,
+      h .1,
+    )
 
 advance-requires : tie.Need-advance-requires
 advance-requires c κs = search needs
@@ -28,23 +36,22 @@ cast-p : tie.Need-cast-p
 cast-p c = search needs
 
 rule-requires : tie.Need-rule-requires
-rule-requires c κs = (omega arith, omega (arith, ap (λ (n : Monitor). n .count) (c .before .advance .ensures)))
+rule-requires c κs =
+    let v = c .before .before .advance .ensures in
+    (omega (arith, c .before .before .before .before .if2 .left), count-kept (v .0) (sound-room _ (c .before .before .before .before .before .before .before .before .before .pre .0)), v .1)
 
 tell-requires : tie.Need-tell-requires
 tell-requires c κs =
-    let h : HasRoom (c .before .before .advance .result) = omega (arith, ap (λ (n : Monitor). n .count) (c .before .before .advance .ensures)) in
-    (omega arith, rw (c .rule .ensures) (rule-room _ _ _ _ _ _ h))
+    let a = c .before .before .before .before .before .before .before .before .before .before .before .args in
+    let near = c .before .before .before .before .before .before .if2 .left in
+    (omega (arith, near), rule-room (a .s .now) (a .c) (not-false _ (c .before .before .before .before .before .before .before .before .if1 .left)) near _ (c .before .before .before .before .advance .ensures .0) _ (c .before .rule .ensures .0) (c .before .before .before .before .before .before .before .before .before .before .before .pre .0))
 
 returns-3 : tie.Need-returns-3
-unfolding callOf told
 returns-3 c =
-    let m = c .before .before .before .before .before .before .before .before .before .args .m in
-    let k = c .before .before .before .before .before .before .before .before .before .args .c in
-    let h : HasRoom (c .before .before .before .advance .result) = omega (arith, ap (λ (n : Monitor). n .count) (c .before .before .before .advance .ensures)) in
-    let r = c .before .rule .ensures ∙ ap (λ (n : Monitor). ruleOf n (k .party) (k .kind) (k .a) (k .b) (k .c)) (c .before .before .before .advance .ensures) in (
-      c .tell .ensures ∙ ap (λ (r : Ruled). told r (k .party)) r ∙ sym (pick-true _ _ _ (not-false _ (c .before .before .before .before .before .before .if1 .left)) ∙ pick-true _ _ _ (le-leb _ _ (c .before .before .before .before .if2 .left))),
-      rw (c .tell .ensures, c .before .rule .ensures) (rule-room _ _ _ _ _ _ h),
-    )
+    let a = c .before .before .before .before .before .before .before .before .before .before .before .before .args in
+    let r = c .before .before .rule .ensures in
+    let e = c .tell .ensures ∙ told-call (a .s .now) (a .c) (not-false _ (c .before .before .before .before .before .before .before .before .before .if1 .left)) (c .before .before .before .before .before .before .before .if2 .left) _ (c .before .before .before .before .before .advance .ensures .0) _ (r .0) in
+    (e, ap (λ (s : Stepped). sound (s .monitor)) e ∙ call-sound (a .s .now) (a .c) (c .before .before .before .before .before .before .before .before .before .before .before .before .pre .0), r .1)
 
 pub call-on-spec : {M : Type 1} → statement M
 call-on-spec =

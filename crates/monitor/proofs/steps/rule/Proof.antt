@@ -1,10 +1,10 @@
--- the rule of the kind that the match found
-use Rattle.monitor.proofs.Usual.{ℕ, _≡_, ap, sym, _∙_, ⊎-elim, needs, ne-eqb, Monitor, pick, unknownKind, ruled, ruleOf, pick-false}
+-- `steps::rule` meets its contract: the rule of the kind that the match found.
+use Rattle.monitor.proofs.Usual.{ℕ, _≡_, ap, sym, _∙_, ⊎-elim, needs, ne-eqb, Monitor, Ruled, pick, unknownKind, ruled, ruleOf, Told, view, ruledBy, pick-false}
 use Rattle.monitor.proofs.steps.rule.Statement.{statement}
 use Rattle.monitor.proofs.steps.rule.Tie as tie
 
-at : (m : Monitor) (p a b c : ℕ) {k n : ℕ} → k ≡ n → ruleOf m p k a b c ≡ ruleOf m p n a b c
-at m p a b c e = ap (λ (k : ℕ). ruleOf m p k a b c) e
+at : (m : Monitor) (p a b c : ℕ) {k n : ℕ} → k ≡ n → {r : Ruled} → r ≡ ruleOf m p n a b c → r ≡ ruleOf m p k a b c
+at m p a b c e f = f ∙ sym (ap (λ (k : ℕ). ruleOf m p k a b c) e)
 
 unknown : (m : Monitor) (p k a b c : ℕ) → (k ≡ 1 → ⊥) → (k ≡ 2 → ⊥) → (k ≡ 3 → ⊥) → (k ≡ 4 → ⊥) → (k ≡ 5 → ⊥) → (k ≡ 6 → ⊥) → (k ≡ 7 → ⊥) → (k ≡ 8 → ⊥) → (k ≡ 9 → ⊥) → (k ≡ 10 → ⊥) → (k ≡ 11 → ⊥) → (k ≡ 12 → ⊥) → (k ≡ 13 → ⊥) → (k ≡ 14 → ⊥) → (k ≡ 15 → ⊥) → (k ≡ 16 → ⊥) → (k ≡ 17 → ⊥) → (k ≡ 18 → ⊥) → (k ≡ 19 → ⊥) → (k ≡ 20 → ⊥) → (k ≡ 21 → ⊥) → ruleOf m p k a b c ≡ ruled m unknownKind
 unfolding ruleOf
@@ -100,138 +100,141 @@ coded-requires c κs = search needs
 returns : tie.Need-returns
 unfolding ruleOf pick
 returns c =
-    let a = c .before .before .args in
-    c .tx-open .ensures ∙ sym (at (a .m) (a .p) (a .a) (a .b) (a .c) (c .before .match .keys1))
+    let a = c .before .before .before .args in
+    (at (view (a .s .now)) (a .p) (a .a) (a .b) (a .c) (c .before .before .match .keys1) (c .tx-open .ensures .0), c .tx-open .ensures .1)
 
 returns-2 : tie.Need-returns-2
 unfolding ruleOf pick
 returns-2 c =
-    let a = c .before .before .args in
-    c .tx-close .ensures ∙ sym (at (a .m) (a .p) (a .a) (a .b) (a .c) (c .before .match .keys2))
+    let a = c .before .before .before .args in
+    (at (view (a .s .now)) (a .p) (a .a) (a .b) (a .c) (c .before .before .match .keys2) (c .tx-close .ensures .0), c .tx-close .ensures .1)
 
 returns-3 : tie.Need-returns-3
 unfolding ruleOf pick
 returns-3 c =
-    let a = c .before .before .args in
-    c .tx-begin .ensures ∙ sym (at (a .m) (a .p) (a .a) (a .b) (a .c) (c .before .match .keys3))
+    let a = c .before .before .before .args in
+    (at (view (a .s .now)) (a .p) (a .a) (a .b) (a .c) (c .before .before .match .keys3) (c .tx-begin .ensures .0), c .tx-begin .ensures .1)
 
 returns-4 : tie.Need-returns-4
 unfolding ruleOf pick
 returns-4 c =
-    let a = c .before .before .args in
-    c .tx-commit .ensures ∙ sym (at (a .m) (a .p) (a .a) (a .b) (a .c) (c .before .match .keys4))
+    let a = c .before .before .before .args in
+    (at (view (a .s .now)) (a .p) (a .a) (a .b) (a .c) (c .before .before .match .keys4) (c .tx-commit .ensures .0), c .tx-commit .ensures .1)
 
 returns-5 : tie.Need-returns-5
 unfolding ruleOf pick
 returns-5 c =
-    let a = c .before .before .args in
-    c .tx-rollback .ensures ∙ sym (at (a .m) (a .p) (a .a) (a .b) (a .c) (c .before .match .keys5))
+    let a = c .before .before .before .args in
+    (at (view (a .s .now)) (a .p) (a .a) (a .b) (a .c) (c .before .before .match .keys5) (c .tx-rollback .ensures .0), c .tx-rollback .ensures .1)
 
 returns-6 : tie.Need-returns-6
 unfolding ruleOf pick
 returns-6 c =
-    let a = c .before .before .args in
-    c .tx-info .ensures ∙ sym (at (a .m) (a .p) (a .a) (a .b) (a .c) (c .before .match .keys6))
+    let a = c .before .before .before .args in
+    (at (view (a .s .now)) (a .p) (a .a) (a .b) (a .c) (c .before .before .match .keys6) (c .tx-info .ensures), c .before .before .before .pre .2)
 
 returns-7 : tie.Need-returns-7
 unfolding ruleOf pick
 returns-7 c =
-    let a = c .before .before .args in
-    c .tx-set-commit-return .ensures ∙ sym (at (a .m) (a .p) (a .a) (a .b) (a .c) (c .before .match .keys7))
+    let a = c .before .before .before .args in
+    (at (view (a .s .now)) (a .p) (a .a) (a .b) (a .c) (c .before .before .match .keys7) (c .tx-set-commit-return .ensures), c .before .before .before .pre .2)
 
 returns-8 : tie.Need-returns-8
 unfolding ruleOf pick
 returns-8 c =
-    let a = c .before .before .args in
-    c .tx-set-transaction-control .ensures ∙ sym (at (a .m) (a .p) (a .a) (a .b) (a .c) (c .before .match .keys8))
+    let a = c .before .before .before .args in
+    (at (view (a .s .now)) (a .p) (a .a) (a .b) (a .c) (c .before .before .match .keys8) (c .tx-set-transaction-control .ensures .0), c .tx-set-transaction-control .ensures .1)
 
 returns-9 : tie.Need-returns-9
 unfolding ruleOf pick
 returns-9 c =
-    let a = c .before .before .args in
-    c .tx-set-transaction-timeout .ensures ∙ sym (at (a .m) (a .p) (a .a) (a .b) (a .c) (c .before .match .keys9))
+    let a = c .before .before .before .args in
+    (at (view (a .s .now)) (a .p) (a .a) (a .b) (a .c) (c .before .before .match .keys9) (c .tx-set-transaction-timeout .ensures .0), c .tx-set-transaction-timeout .ensures .1)
 
 returns-10 : tie.Need-returns-10
 unfolding ruleOf pick
 returns-10 c =
-    let a = c .before .before .args in
-    c .tpadvertise .ensures ∙ sym (at (a .m) (a .p) (a .a) (a .b) (a .c) (c .before .match .keys10))
+    let a = c .before .before .before .args in
+    (at (view (a .s .now)) (a .p) (a .a) (a .b) (a .c) (c .before .before .match .keys10) (c .tpadvertise .ensures .0), c .tpadvertise .ensures .1)
 
 returns-11 : tie.Need-returns-11
 unfolding ruleOf pick
 returns-11 c =
-    let a = c .before .before .args in
-    c .tpunadvertise .ensures ∙ sym (at (a .m) (a .p) (a .a) (a .b) (a .c) (c .before .match .keys11))
+    let a = c .before .before .before .args in
+    (at (view (a .s .now)) (a .p) (a .a) (a .b) (a .c) (c .before .before .match .keys11) (c .tpunadvertise .ensures .0), c .tpunadvertise .ensures .1)
 
 returns-12 : tie.Need-returns-12
 unfolding ruleOf pick
 returns-12 c =
-    let a = c .before .before .args in
-    c .tpacall .ensures ∙ sym (at (a .m) (a .p) (a .a) (a .b) (a .c) (c .before .match .keys12))
+    let a = c .before .before .before .args in
+    (at (view (a .s .now)) (a .p) (a .a) (a .b) (a .c) (c .before .before .match .keys12) (c .tpacall .ensures .0), c .tpacall .ensures .1)
 
 returns-13 : tie.Need-returns-13
 unfolding ruleOf pick
 returns-13 c =
-    let a = c .before .before .args in
-    c .tpconnect .ensures ∙ sym (at (a .m) (a .p) (a .a) (a .b) (a .c) (c .before .match .keys13))
+    let a = c .before .before .before .args in
+    (at (view (a .s .now)) (a .p) (a .a) (a .b) (a .c) (c .before .before .match .keys13) (c .tpconnect .ensures .0), c .tpconnect .ensures .1)
 
 returns-14 : tie.Need-returns-14
 unfolding ruleOf pick
 returns-14 c =
-    let a = c .before .before .args in
-    c .take .ensures ∙ sym (at (a .m) (a .p) (a .a) (a .b) (a .c) (c .before .match .keys14))
+    let a = c .before .before .before .args in
+    (at (view (a .s .now)) (a .p) (a .a) (a .b) (a .c) (c .before .before .match .keys14) (c .take .ensures .0), c .take .ensures .1)
 
 returns-15 : tie.Need-returns-15
 unfolding ruleOf pick
 returns-15 c =
-    let a = c .before .before .args in
-    c .tpgetrply .ensures ∙ sym (at (a .m) (a .p) (a .a) (a .b) (a .c) (c .before .match .keys15))
+    let a = c .before .before .before .args in
+    (at (view (a .s .now)) (a .p) (a .a) (a .b) (a .c) (c .before .before .match .keys15) (c .tpgetrply .ensures .0), c .tpgetrply .ensures .1)
 
 returns-16 : tie.Need-returns-16
 unfolding ruleOf pick
 returns-16 c =
-    let a = c .before .before .args in
-    c .tpcancel .ensures ∙ sym (at (a .m) (a .p) (a .a) (a .b) (a .c) (c .before .match .keys16))
+    let a = c .before .before .before .args in
+    (at (view (a .s .now)) (a .p) (a .a) (a .b) (a .c) (c .before .before .match .keys16) (c .tpcancel .ensures .0), c .tpcancel .ensures .1)
 
 returns-17 : tie.Need-returns-17
 unfolding ruleOf pick
 returns-17 c =
-    let a = c .before .before .args in
-    c .tpsend .ensures ∙ sym (at (a .m) (a .p) (a .a) (a .b) (a .c) (c .before .match .keys17))
+    let a = c .before .before .before .args in
+    (at (view (a .s .now)) (a .p) (a .a) (a .b) (a .c) (c .before .before .match .keys17) (c .tpsend .ensures .0), c .tpsend .ensures .1)
 
 returns-18 : tie.Need-returns-18
 unfolding ruleOf pick
 returns-18 c =
-    let a = c .before .before .args in
-    c .tprecv .ensures ∙ sym (at (a .m) (a .p) (a .a) (a .b) (a .c) (c .before .match .keys18))
+    let a = c .before .before .before .args in
+    (at (view (a .s .now)) (a .p) (a .a) (a .b) (a .c) (c .before .before .match .keys18) (c .tprecv .ensures .0), c .tprecv .ensures .1)
 
 returns-19 : tie.Need-returns-19
 unfolding ruleOf pick
 returns-19 c =
-    let a = c .before .before .args in
-    c .tpdiscon .ensures ∙ sym (at (a .m) (a .p) (a .a) (a .b) (a .c) (c .before .match .keys19))
+    let a = c .before .before .before .args in
+    (at (view (a .s .now)) (a .p) (a .a) (a .b) (a .c) (c .before .before .match .keys19) (c .tpdiscon .ensures .0), c .tpdiscon .ensures .1)
 
 returns-20 : tie.Need-returns-20
 unfolding ruleOf pick
 returns-20 c =
-    let a = c .before .before .args in
-    c .tpreturn .ensures ∙ sym (at (a .m) (a .p) (a .a) (a .b) (a .c) (c .before .match .keys20))
+    let a = c .before .before .before .args in
+    (at (view (a .s .now)) (a .p) (a .a) (a .b) (a .c) (c .before .before .match .keys20) (c .tpreturn .ensures .0), c .tpreturn .ensures .1)
 
 returns-21 : tie.Need-returns-21
 unfolding ruleOf pick
 returns-21 c =
-    let a = c .before .before .args in
-    c .terminate .ensures ∙ sym (at (a .m) (a .p) (a .a) (a .b) (a .c) (c .before .match .keys21))
+    let a = c .before .before .before .args in
+    (at (view (a .s .now)) (a .p) (a .a) (a .b) (a .c) (c .before .before .match .keys21) (c .terminate .ensures .0), c .terminate .ensures .1)
 
 returns-22 : tie.Need-returns-22
 unfolding ruleOf pick
 returns-22 c =
     let a = c .before .before .args in
-    c .coded .ensures
-    ∙ sym (⊎-elim
-    (λ w. at (a .m) (a .p) (a .a) (a .b) (a .c) (w .keys22))
-    (λ w. unknown (a .m) (a .p) (a .k) (a .a) (a .b) (a .c) (w .rest .0 .0 .0 .0 .0 .0 .0 .0 .0 .0 .0 .0 .0 .0 .0 .0 .0 .0 .0 .0 .0 .1) (w .rest .0 .0 .0 .0 .0 .0 .0 .0 .0 .0 .0 .0 .0 .0 .0 .0 .0 .0 .0 .0 .1) (w .rest .0 .0 .0 .0 .0 .0 .0 .0 .0 .0 .0 .0 .0 .0 .0 .0 .0 .0 .0 .1) (w .rest .0 .0 .0 .0 .0 .0 .0 .0 .0 .0 .0 .0 .0 .0 .0 .0 .0 .0 .1) (w .rest .0 .0 .0 .0 .0 .0 .0 .0 .0 .0 .0 .0 .0 .0 .0 .0 .0 .1) (w .rest .0 .0 .0 .0 .0 .0 .0 .0 .0 .0 .0 .0 .0 .0 .0 .0 .1) (w .rest .0 .0 .0 .0 .0 .0 .0 .0 .0 .0 .0 .0 .0 .0 .0 .1) (w .rest .0 .0 .0 .0 .0 .0 .0 .0 .0 .0 .0 .0 .0 .0 .1) (w .rest .0 .0 .0 .0 .0 .0 .0 .0 .0 .0 .0 .0 .0 .1) (w .rest .0 .0 .0 .0 .0 .0 .0 .0 .0 .0 .0 .0 .1) (w .rest .0 .0 .0 .0 .0 .0 .0 .0 .0 .0 .0 .1) (w .rest .0 .0 .0 .0 .0 .0 .0 .0 .0 .0 .1) (w .rest .0 .0 .0 .0 .0 .0 .0 .0 .0 .1) (w .rest .0 .0 .0 .0 .0 .0 .0 .0 .1) (w .rest .0 .0 .0 .0 .0 .0 .0 .1) (w .rest .0 .0 .0 .0 .0 .0 .1) (w .rest .0 .0 .0 .0 .0 .1) (w .rest .0 .0 .0 .0 .1) (w .rest .0 .0 .0 .1) (w .rest .0 .0 .1) (w .rest .0 .1))
-    (c .before .match .came))
+    let m = view (a .s .now) in
+    let e = ap (λ (t : Told). ruledBy t m) (c .coded .ensures) in (
+      ⊎-elim
+          (λ w. at m (a .p) (a .a) (a .b) (a .c) (w .keys22) e)
+          (λ w. e ∙ sym (unknown m (a .p) (a .k) (a .a) (a .b) (a .c) (w .rest .0 .0 .0 .0 .0 .0 .0 .0 .0 .0 .0 .0 .0 .0 .0 .0 .0 .0 .0 .0 .0 .1) (w .rest .0 .0 .0 .0 .0 .0 .0 .0 .0 .0 .0 .0 .0 .0 .0 .0 .0 .0 .0 .0 .1) (w .rest .0 .0 .0 .0 .0 .0 .0 .0 .0 .0 .0 .0 .0 .0 .0 .0 .0 .0 .0 .1) (w .rest .0 .0 .0 .0 .0 .0 .0 .0 .0 .0 .0 .0 .0 .0 .0 .0 .0 .0 .1) (w .rest .0 .0 .0 .0 .0 .0 .0 .0 .0 .0 .0 .0 .0 .0 .0 .0 .0 .1) (w .rest .0 .0 .0 .0 .0 .0 .0 .0 .0 .0 .0 .0 .0 .0 .0 .0 .1) (w .rest .0 .0 .0 .0 .0 .0 .0 .0 .0 .0 .0 .0 .0 .0 .0 .1) (w .rest .0 .0 .0 .0 .0 .0 .0 .0 .0 .0 .0 .0 .0 .0 .1) (w .rest .0 .0 .0 .0 .0 .0 .0 .0 .0 .0 .0 .0 .0 .1) (w .rest .0 .0 .0 .0 .0 .0 .0 .0 .0 .0 .0 .0 .1) (w .rest .0 .0 .0 .0 .0 .0 .0 .0 .0 .0 .0 .1) (w .rest .0 .0 .0 .0 .0 .0 .0 .0 .0 .0 .1) (w .rest .0 .0 .0 .0 .0 .0 .0 .0 .0 .1) (w .rest .0 .0 .0 .0 .0 .0 .0 .0 .1) (w .rest .0 .0 .0 .0 .0 .0 .0 .1) (w .rest .0 .0 .0 .0 .0 .0 .1) (w .rest .0 .0 .0 .0 .0 .1) (w .rest .0 .0 .0 .0 .1) (w .rest .0 .0 .0 .1) (w .rest .0 .0 .1) (w .rest .0 .1)))
+          (c .before .match .came),
+      c .before .before .pre .2,
+    )
 
 pub rule-spec : {M : Type 1} → statement M
 rule-spec =

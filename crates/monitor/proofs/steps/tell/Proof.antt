@@ -1,6 +1,5 @@
 -- `steps::tell` meets its contract.
--- Assumes nothing.
-use Rattle.monitor.proofs.Usual.{_≡_, needs, w64, toZ, ofZ, told}
+use Rattle.monitor.proofs.Usual.{_≡_, needs, w64, toZ, ofZ, view, told}
 use Rattle.monitor.proofs.steps.tell.Statement.{statement}
 use Rattle.monitor.proofs.steps.tell.Tie as tie
 
@@ -10,9 +9,10 @@ tx-of-requires c κs = search needs
 returns : tie.Need-returns
 unfolding told
 returns c =
-    let r = c .before .before .before .args .r in
+    let a = c .before .before .args in
+    let r = a .r in
     let e : toZ w64 (ofZ w64 (r .code)) ≡ r .code = search needs in
-    λ i. record { monitor = r .monitor; answer = record { code = e i; value = r .value; event = r .event; token = r .token; service = r .service; tx = c .before .tx-of .ensures i } }
+    λ i. record { monitor = view (a .s .now); answer = record { code = e i; value = r .value; event = r .event; token = r .token; service = r .service; tx = c .before .tx-of .ensures i } }
 
 pub tell-spec : {M : Type 1} → statement M
 tell-spec = tie.close (tie.spec tx-of-requires returns)

@@ -1,32 +1,59 @@
 -- `transaction::begin_tx` meets its contract.
--- Assumes nothing.
-use Rattle.monitor.proofs.Usual.{needs, beginTx}
+use Rattle.monitor.proofs.Usual.{ℕ, _+_, _≡_, ap, ap₂, _∙_, needs, Party, Monitor, party, withParty, deadlineOf, beginTx, view, withLastTx}
+use Rattle.rules.specs.Record.{owning}
 use Rattle.monitor.proofs.transaction.begin_tx.Statement.{statement}
 use Rattle.monitor.proofs.transaction.begin_tx.Tie as tie
+
+begins : (m : Monitor) (p last now d : ℕ) (q : Party) → last ≡ m .lasttx → now ≡ m .clock → q ≡ party m p → d ≡ deadlineOf now (q .timeout) → withParty (withLastTx m (last + 1)) p (owning q (last + 1) d) ≡ beginTx m p
+unfolding beginTx
+begins m p last now d q l n e h =
+    let k = h ∙ ap₂ deadlineOf n (ap (λ (x : Party). x .timeout) e) in
+    (λ z. withParty (withLastTx m (l z + 1)) p (owning (e z) (l z + 1) (k z)))
+
+last-tx-requires : tie.Need-last-tx-requires
+last-tx-requires c κs = search needs
 
 add-t : tie.Need-add-t
 add-t c = search needs
 
-mul-q : tie.Need-mul-q
-mul-q c = search needs
+clock-requires : tie.Need-clock-requires
+clock-requires c κs = search needs
 
-element-copy-out-q : tie.Need-element-copy-out-q
-element-copy-out-q c = search needs
+party-at-requires : tie.Need-party-at-requires
+party-at-requires c κs = search needs
 
 deadline-requires : tie.Need-deadline-requires
 deadline-requires c κs = search needs
 
-mul-q-2 : tie.Need-mul-q-2
-mul-q-2 c = search needs
+set-last-tx-requires : tie.Need-set-last-tx-requires
+set-last-tx-requires c κs = search needs
 
-element-set-from-q : tie.Need-element-set-from-q
-element-set-from-q c = search needs
+put-party-requires : tie.Need-put-party-requires
+put-party-requires c κs = search needs
 
 returns : tie.Need-returns
-unfolding beginTx
-returns c = rw (c .deadline .ensures)
+returns c =
+    let a = c .before .before .before .before .before .before .before .before .before .before .before .args in
+    let m = view (a .s .now) in
+    let last = c .before .before .before .before .before .before .before .before .before .last-tx in
+    let now = c .before .before .before .before .before .before .before .clock in
+    let q = c .before .before .before .before .before .party-at in
+    let d = c .before .before .before .before .deadline in (
+      c .put-party .ensures .0
+          ∙ ap (λ (k : Monitor). withParty k (a .p) (owning (q .result) (last .result + 1) (d .result))) (c .before .before .set-last-tx .ensures .0)
+          ∙ begins m (a .p) (last .result) (now .result) (d .result) (q .result) (last .ensures) (now .ensures) (q .ensures) (d .ensures),
+      c .put-party .ensures .1,
+    )
 
 pub begin-tx-spec : {M : Type 1} → statement M
 begin-tx-spec =
     tie.close
-    (tie.spec add-t mul-q element-copy-out-q deadline-requires mul-q-2 element-set-from-q returns)
+    (tie.spec
+    last-tx-requires
+    add-t
+    clock-requires
+    party-at-requires
+    deadline-requires
+    set-last-tx-requires
+    put-party-requires
+    returns)

@@ -1,28 +1,32 @@
 -- `transaction::can_commit` meets its contract.
--- Assumes nothing.
-use Rattle.monitor.proofs.Usual.{ap₂, Bool, not, _&&_, needs, isRollbackOnly, party, canCommit}
+use Rattle.monitor.proofs.Usual.{ap, ap₂, sym, _∙_, Bool, not, _&&_, needs, Party, firstOf, anyOf, isRollbackOnly, live, late, isOpenOf, canCommit, view, ofTx}
 use Rattle.monitor.proofs.transaction.can_commit.Statement.{statement}
 use Rattle.monitor.proofs.transaction.can_commit.Tie as tie
 
-mul-q : tie.Need-mul-q
-mul-q c = search needs
+party-at-requires : tie.Need-party-at-requires
+party-at-requires c κs = search needs
 
-element-copy-out-q : tie.Need-element-copy-out-q
-element-copy-out-q c = search needs
+clock-requires : tie.Need-clock-requires
+clock-requires c κs = search needs
 
 is-late-requires : tie.Need-is-late-requires
 is-late-requires c κs = search needs
 
 has-open-end-requires : tie.Need-has-open-end-requires
-has-open-end-requires c κs = search needs
+has-open-end-requires c κs =
+    let s = c .before .before .before in
+    (s .pre .1, s .pre .2 ∙ ap (λ (q : Party). firstOf (ofTx (q .owned)) (live (view (s .args .s .now)))) (sym (c .before .before .party-at .ensures)))
 
 returns : tie.Need-returns
 unfolding canCommit
 returns c =
-    let m = c .before .before .before .before .args .t1 in
-    let p = c .before .before .before .before .args .p in
-    ap₂ (λ (passed : Bool) (left : Bool). not (isRollbackOnly (party m p)) && (not passed && not left)) (c .before .before .is-late .ensures) (c .before .has-open-end .ensures)
+    let m = view (c .before .before .before .before .before .args .s .now) in
+    let q = c .before .before .before .before .party-at in
+    let now = c .before .before .before .clock in
+    ap₂ (λ (passed : Bool) (left : Bool). not (isRollbackOnly (q .result)) && (not passed && not left)) (c .before .before .is-late .ensures) (c .before .has-open-end .ensures)
+    ∙ (λ z. not (isRollbackOnly (q .ensures z)) && (not (late (now .ensures z) (q .ensures z)) && not (anyOf (isOpenOf (q .ensures z .owned)) (live m))))
 
 pub can-commit-spec : {M : Type 1} → statement M
 can-commit-spec =
-    tie.close (tie.spec mul-q element-copy-out-q is-late-requires has-open-end-requires returns)
+    tie.close
+    (tie.spec party-at-requires clock-requires is-late-requires has-open-end-requires returns)

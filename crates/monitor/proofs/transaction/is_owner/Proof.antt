@@ -1,14 +1,10 @@
 -- `transaction::is_owner` meets its contract.
--- Assumes nothing.
-use Rattle.monitor.proofs.Usual.{ℕ, ap, not, _&&_, needs, eqb, same, party, isOwner}
+use Rattle.monitor.proofs.Usual.{ℕ, ap, _∙_, not, _&&_, needs, eqb, same, firstOf, owns, isOwner, view}
 use Rattle.monitor.proofs.transaction.is_owner.Statement.{statement}
 use Rattle.monitor.proofs.transaction.is_owner.Tie as tie
 
-mul-q : tie.Need-mul-q
-mul-q c = search needs
-
-element-copy-out-q : tie.Need-element-copy-out-q
-element-copy-out-q c = search needs
+owned-at-requires : tie.Need-owned-at-requires
+owned-at-requires c κs = search needs
 
 owner-requires : tie.Need-owner-requires
 owner-requires c κs = search needs
@@ -16,9 +12,11 @@ owner-requires c κs = search needs
 returns : tie.Need-returns
 unfolding isOwner same
 returns c =
-    let m = c .before .before .before .args .t1 in
-    let p = c .before .before .before .args .p in
-    ap (λ (k : ℕ). not (eqb (party m p .owned) 0) && eqb k p) (c .before .owner .ensures)
+    let a = c .before .before .args in
+    let ps = view (a .s .now) .parties in
+    let t = c .before .owned-at in
+    ap (λ (k : ℕ). not (eqb (t .result) 0) && eqb k (a .p)) (c .owner .ensures)
+    ∙ ap (λ (k : ℕ). not (eqb k 0) && eqb (firstOf (owns k) ps) (a .p)) (t .ensures)
 
 pub is-owner-spec : {M : Type 1} → statement M
-is-owner-spec = tie.close (tie.spec mul-q element-copy-out-q owner-requires returns)
+is-owner-spec = tie.close (tie.spec owned-at-requires owner-requires returns)

@@ -1,30 +1,83 @@
 -- `transaction::tx_of` meets its contract.
--- Assumes nothing.
-use Rattle.monitor.proofs.Usual.{ap, sym, _∙_, needs, eq-eqb, ne-eqb, Link, servedTx, txOf, pick-true, pick-false}
+use Rattle.monitor.proofs.Usual.{ℕ, _≡_, ap, ap₂, sym, _∙_, arith, needs, eq-eqb, ne-eqb, Link, Monitor, pick, freshLink, party, linkOf, servedTx, txOf, view, pick-true, pick-false, eqb, live-past, links-long, live-in, live-of}
 use Rattle.monitor.proofs.transaction.tx_of.Statement.{statement}
 use Rattle.monitor.proofs.transaction.tx_of.Tie as tie
 
-mul-q : tie.Need-mul-q
-mul-q c = search needs
+-- a party's transaction by its two numbers
+abbrev txBy : Monitor → ℕ → ℕ → ℕ
+txBy m owned served = pick (eqb owned 0) (servedTx m served) owned
 
-element-copy-out-q : tie.Need-element-copy-out-q
-element-copy-out-q c = search needs
+by-served : (m : Monitor) (owned served : ℕ) → owned ≡ 0 → (served ≡ 0 → ⊥) → linkOf m served .tx ≡ txBy m owned served
+unfolding servedTx
+by-served m owned served e h = sym (pick-true _ _ _ (eq-eqb _ _ e) ∙ pick-false _ _ _ (ne-eqb _ _ h))
+
+owned-at-requires : tie.Need-owned-at-requires
+owned-at-requires c κs = search needs
 
 returns : tie.Need-returns
 unfolding txOf
-returns c = sym (pick-false _ _ _ (ne-eqb _ _ (c .if1 .taken)))
+returns c =
+    let a = c .before .before .args in
+    let m = view (a .s .now) in
+    sym (pick-false _ _ _ (ne-eqb _ _ (c .if1 .taken))) ∙ ap (λ (t : ℕ). txBy m t (party m (a .p) .served)) (c .before .owned-at .ensures)
+
+served-at-requires : tie.Need-served-at-requires
+served-at-requires c κs = search needs
 
 returns-2 : tie.Need-returns-2
 unfolding txOf servedTx
-returns-2 c = sym (pick-true _ _ _ (eq-eqb _ _ (c .before .before .if1 .left)) ∙ pick-true _ _ _ (eq-eqb _ _ (c .if2 .taken)))
+returns-2 c =
+    let m = view (c .before .before .before .before .args .s .now) in
+    sym (pick-true _ _ _ (eq-eqb _ _ (c .before .before .if1 .left)) ∙ pick-true _ _ _ (eq-eqb _ _ (c .if2 .taken)))
+    ∙ ap₂ (txBy m) (c .before .before .before .owned-at .ensures) (c .before .served-at .ensures)
 
-link-of-requires : tie.Need-link-of-requires
-link-of-requires c κs = search needs
+place-of-requires : tie.Need-place-of-requires
+place-of-requires c κs = search needs
+
+count-requires : tie.Need-count-requires
+count-requires c κs = search needs
+
+tx-at-requires : tie.Need-tx-at-requires
+tx-at-requires c κs = search needs
 
 returns-3 : tie.Need-returns-3
-unfolding txOf servedTx
-returns-3 c = ap (λ (l : Link). l .tx) (c .link-of .ensures) ∙ sym (pick-true _ _ _ (eq-eqb _ _ (c .before .before .before .if1 .left)) ∙ pick-false _ _ _ (ne-eqb _ _ (c .before .if2 .left)))
+unfolding txOf
+returns-3 c =
+    let s = c .before .before .before .before .before .before .before .before in
+    let m = view (s .args .s .now) in
+    let o = c .before .before .before .before .before .before .before .owned-at in
+    let d = c .before .before .before .before .before .served-at in
+    let i = c .before .before .before .place-of in
+    let n = c .before .before .count .ensures in
+    c .tx-at .ensures
+    ∙ ap (λ (l : Link). l .tx) (sym (live-in (s .args .s .now) (i .result) (s .pre .1) (omega arith)) ∙ live-of m (d .result) (i .result) (i .ensures))
+    ∙ by-served m (o .result) (d .result) (c .before .before .before .before .before .before .if1 .left) (c .before .before .before .before .if2 .left)
+    ∙ ap₂ (txBy m) (o .ensures) (d .ensures)
+
+returns-4 : tie.Need-returns-4
+unfolding txOf
+returns-4 c =
+    let s = c .before .before .before .before .before .before .before in
+    let m = view (s .args .s .now) in
+    let o = c .before .before .before .before .before .before .owned-at in
+    let d = c .before .before .before .before .served-at in
+    let i = c .before .before .place-of in
+    let n = c .before .count .ensures in
+    let k = links-long 32 0 (s .args .s .now) in
+    ap (λ (l : Link). l .tx) (sym (live-past (m .count) (m .links) (i .result) freshLink (omega arith) (omega arith)) ∙ live-of m (d .result) (i .result) (i .ensures))
+    ∙ by-served m (o .result) (d .result) (c .before .before .before .before .before .if1 .left) (c .before .before .before .if2 .left)
+    ∙ ap₂ (txBy m) (o .ensures) (d .ensures)
 
 pub tx-of-spec : {M : Type 1} → statement M
 tx-of-spec =
-    tie.close (tie.spec mul-q element-copy-out-q returns returns-2 link-of-requires returns-3)
+    tie.close
+    (tie.spec
+    owned-at-requires
+    returns
+    served-at-requires
+    returns-2
+    place-of-requires
+    count-requires
+    tx-at-requires
+    returns-3
+    returns-4)

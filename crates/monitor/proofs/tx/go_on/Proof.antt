@@ -1,6 +1,7 @@
--- `go_on` meets its contract: unchained, chained, and chained with the numbers spent.
+-- `tx::go_on` meets its contract: unchained, chained, and chained with the numbers spent.
 -- Assumes nothing.
-use Rattle.monitor.proofs.Usual.{_≡_, ap, sym, _∙_, needs, eq-eqb, ne-eqb, lt-ltb, le-ltb, pick-true, pick-false, Monitor, ruled, entered, goOn, noBegin, ap₂, toZ, ofZ, w64}
+use Rattle.monitor.proofs.Usual.{_≡_, ap, ap₂, sym, _∙_, needs, eq-eqb, ne-eqb, pick-true, pick-false, toZ, ofZ, w64, Monitor, ruled, entered, goOn, noBegin, view}
+use Rattle.monitor.proofs.Telling.{code-told, tx-left, tx-spent}
 use Rattle.monitor.proofs.tx.go_on.Statement.{statement}
 use Rattle.monitor.proofs.tx.go_on.Tie as tie
 
@@ -13,9 +14,13 @@ coded-requires c κs = search needs
 returns : tie.Need-returns
 unfolding goOn
 returns c =
-    let a = c .before .before .before .args in
+    let a = c .before .before .before .before .args in
+    let n = c .before .enter .ensures in
     let z : toZ w64 (ofZ w64 (a .code)) ≡ a .code = search needs in
-    c .coded .ensures ∙ ap₂ ruled (c .before .enter .ensures) z ∙ sym (pick-false _ _ _ (ne-eqb _ _ (c .before .before .if1 .taken)))
+    (code-told _ (c .coded .ensures) ∙ ap₂ ruled (n .0) z ∙ sym (pick-false _ _ _ (ne-eqb _ _ (c .before .before .before .if1 .taken))), n .1)
+
+last-tx-requires : tie.Need-last-tx-requires
+last-tx-requires c κs = search needs
 
 begin-tx-requires : tie.Need-begin-tx-requires
 begin-tx-requires c κs = search needs
@@ -29,11 +34,15 @@ coded-requires-2 c κs = search needs
 returns-2 : tie.Need-returns-2
 unfolding goOn
 returns-2 c =
-    let a = c .before .before .before .before .before .before .args in
+    let a = c .before .before .before .before .before .before .before .before .before .args in
+    let n = c .before .enter2 .ensures in
     let z : toZ w64 (ofZ w64 (a .code)) ≡ a .code = search needs in
-    c .coded2 .ensures
-    ∙ ap₂ ruled (c .before .enter2 .ensures ∙ ap (λ (n : Monitor). entered n (a .p) 4) (c .before .before .begin-tx .ensures)) z
-    ∙ sym (pick-true _ _ _ (eq-eqb _ _ (c .before .before .before .before .before .if1 .left)) ∙ pick-true _ _ _ (lt-ltb _ _ (c .before .before .before .if2 .taken)))
+    let left = tx-left (view (a .s .now)) _ (c .before .before .before .before .before .before .last-tx .ensures) (c .before .before .before .before .before .if2 .taken) in (
+      code-told _ (c .coded2 .ensures)
+          ∙ ap₂ ruled (n .0 ∙ ap (λ (m : Monitor). entered m (a .p) 4) (c .before .before .before .begin-tx .ensures .0)) z
+          ∙ sym (pick-true _ _ _ (eq-eqb _ _ (c .before .before .before .before .before .before .before .before .if1 .left)) ∙ pick-true _ _ _ left),
+      n .1,
+    )
 
 enter-requires-3 : tie.Need-enter-requires-3
 enter-requires-3 c κs = search needs
@@ -47,12 +56,17 @@ coded-requires-3 c κs = search needs
 returns-3 : tie.Need-returns-3
 unfolding goOn
 returns-3 c =
-    let a = c .before .before .before .before .before .before .args in
+    let a = c .before .before .before .before .before .before .before .before .args in
+    let n = c .before .before .enter3 .ensures in
+    let b = c .before .no-begin in
     let z : toZ w64 (ofZ w64 (a .code)) ≡ a .code = search needs in
-    let r : toZ w64 (ofZ w64 (c .before .no-begin .result)) ≡ c .before .no-begin .result = search needs in
-    c .coded3 .ensures
-    ∙ ap₂ ruled (c .before .before .enter3 .ensures) (r ∙ c .before .no-begin .ensures ∙ ap noBegin z)
-    ∙ sym (pick-true _ _ _ (eq-eqb _ _ (c .before .before .before .before .before .if1 .left)) ∙ pick-false _ _ _ (le-ltb _ _ (c .before .before .before .if2 .left)))
+    let r : toZ w64 (ofZ w64 (b .result)) ≡ b .result = search needs in
+    let spent = tx-spent (view (a .s .now)) _ (c .before .before .before .before .before .last-tx .ensures) (c .before .before .before .before .if2 .left) in (
+      code-told _ (c .coded3 .ensures)
+          ∙ ap₂ ruled (n .0) (r ∙ b .ensures ∙ ap noBegin z)
+          ∙ sym (pick-true _ _ _ (eq-eqb _ _ (c .before .before .before .before .before .before .before .if1 .left)) ∙ pick-false _ _ _ spent),
+      n .1,
+    )
 
 pub go-on-spec : {M : Type 1} → statement M
 go-on-spec =
@@ -61,6 +75,7 @@ go-on-spec =
     enter-requires
     coded-requires
     returns
+    last-tx-requires
     begin-tx-requires
     enter-requires-2
     coded-requires-2

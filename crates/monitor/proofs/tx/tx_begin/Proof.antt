@@ -1,7 +1,7 @@
--- `tx_begin` meets its contract: a transaction begins where the table and the numbers allow it.
+-- `tx::tx_begin` meets its contract: a transaction begins where the table and the numbers allow it.
 -- Assumes nothing.
-use Rattle.monitor.proofs.Usual.{ℕ, ap, sym, _∙_, needs, lt-ltb, le-ltb, pick-true, pick-false, Monitor, ruled, entered, beginOf, txOk, ap₂}
-use Rattle.monitor.proofs.Asks.{blank-refused, state-passed}
+use Rattle.monitor.proofs.Usual.{ℕ, ap, ap₂, sym, _∙_, needs, pick-true, pick-false, Monitor, ruled, entered, beginOf, txOk, view}
+use Rattle.monitor.proofs.Telling.{blank-told, passed-told, tx-left, tx-spent}
 use Rattle.monitor.proofs.tx.tx_begin.Statement.{statement}
 use Rattle.monitor.proofs.tx.tx_begin.Tie as tie
 
@@ -13,14 +13,20 @@ coded-requires c κs = search needs
 
 returns : tie.Need-returns
 unfolding beginOf
-returns c = c .coded .ensures ∙ blank-refused _ _ _ _ _ (c .before .before .state-after .ensures .0) (c .before .if1 .taken)
+returns c = (blank-told _ _ _ _ _ (c .before .before .state-after .ensures .0) (c .coded .ensures) (c .before .if1 .taken), c .before .before .before .before .pre .2)
+
+last-tx-requires : tie.Need-last-tx-requires
+last-tx-requires c κs = search needs
 
 coded-requires-2 : tie.Need-coded-requires-2
 coded-requires-2 c κs = search needs
 
 returns-2 : tie.Need-returns-2
 unfolding beginOf
-returns-2 c = c .coded2 .ensures ∙ sym (pick-false _ _ _ (le-ltb _ _ (c .before .if2 .taken))) ∙ state-passed _ _ _ _ _ (c .before .before .before .before .state-after .ensures .0) (c .before .before .before .if1 .left)
+returns-2 c =
+    let s = c .before .before .before .before .before .before .before in
+    let spent = tx-spent (view (s .args .s .now)) _ (c .before .before .last-tx .ensures) (c .before .if2 .taken) in
+    (passed-told _ _ _ _ _ (c .before .before .before .before .before .state-after .ensures .0) _ (c .coded2 .ensures) (sym (pick-false _ _ _ spent)) (c .before .before .before .before .if1 .left), s .pre .2)
 
 begin-tx-requires : tie.Need-begin-tx-requires
 begin-tx-requires c κs = search needs
@@ -34,11 +40,12 @@ coded-requires-3 c κs = search needs
 returns-3 : tie.Need-returns-3
 unfolding beginOf
 returns-3 c =
-    let a = c .before .before .before .before .before .before .before .args in
-    c .coded3 .ensures
-    ∙ ap (λ (n : Monitor). ruled n txOk) (c .before .enter .ensures ∙ ap₂ (λ (n : Monitor) (s : ℕ). entered n (a .p) s) (c .before .before .begin-tx .ensures) (c .before .before .before .before .before .before .state-after .ensures .0))
-    ∙ sym (pick-true _ _ _ (lt-ltb _ _ (c .before .before .before .if2 .left)))
-    ∙ state-passed _ _ _ _ _ (c .before .before .before .before .before .before .state-after .ensures .0) (c .before .before .before .before .before .if1 .left)
+    let a = c .before .before .before .before .before .before .before .before .before .before .before .args in
+    let e = c .before .before .before .before .before .before .before .before .before .state-after .ensures .0 in
+    let n = c .before .enter .ensures in
+    let left = tx-left (view (a .s .now)) _ (c .before .before .before .before .before .before .last-tx .ensures) (c .before .before .before .before .before .if2 .left) in
+    let r = ap (λ (m : Monitor). ruled m txOk) (n .0 ∙ ap₂ (λ (m : Monitor) (s : ℕ). entered m (a .p) s) (c .before .before .before .begin-tx .ensures .0) e) in
+    (passed-told _ _ _ _ _ e _ (c .coded3 .ensures) (r ∙ sym (pick-true _ _ _ left)) (c .before .before .before .before .before .before .before .before .if1 .left), n .1)
 
 pub tx-begin-spec : {M : Type 1} → statement M
 tx-begin-spec =
@@ -47,6 +54,7 @@ tx-begin-spec =
     state-after-requires
     coded-requires
     returns
+    last-tx-requires
     coded-requires-2
     returns-2
     begin-tx-requires

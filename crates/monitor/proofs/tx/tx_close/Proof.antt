@@ -1,7 +1,7 @@
--- `tx_close` meets its contract: the next state is entered, and the timeout becomes 0.
+-- `tx::tx_close` meets its contract: the next state is entered, and the timeout becomes 0.
 -- Assumes nothing.
-use Rattle.monitor.proofs.Usual.{ap, _∙_, needs, Monitor, party, withParty, ruled, entered, withTimeout, closeOf, txOk}
-use Rattle.monitor.proofs.Asks.{blank-refused, state-passed}
+use Rattle.monitor.proofs.Usual.{ap, _∙_, needs, Monitor, party, withParty, ruled, entered, withTimeout, closeOf, txOk, view}
+use Rattle.monitor.proofs.Telling.{blank-told, passed-told}
 use Rattle.monitor.proofs.tx.tx_close.Statement.{statement}
 use Rattle.monitor.proofs.tx.tx_close.Tie as tie
 
@@ -13,7 +13,7 @@ coded-requires c κs = search needs
 
 returns : tie.Need-returns
 unfolding closeOf
-returns c = c .coded .ensures ∙ blank-refused _ _ _ _ _ (c .before .before .state-after .ensures .0) (c .before .if1 .taken)
+returns c = (blank-told _ _ _ _ _ (c .before .before .state-after .ensures .0) (c .coded .ensures) (c .before .if1 .taken), c .before .before .before .before .pre .2)
 
 enter-requires : tie.Need-enter-requires
 enter-requires c κs = search needs
@@ -27,10 +27,12 @@ coded-requires-2 c κs = search needs
 returns-2 : tie.Need-returns-2
 unfolding closeOf
 returns-2 c =
-    let a = c .before .before .before .before .before .args in
-    c .coded2 .ensures
-    ∙ ap (λ (n : Monitor). ruled n txOk) (c .before .set-timeout .ensures ∙ ap (λ (n : Monitor). withParty n (a .p) (withTimeout (party n (a .p)) 0)) (c .before .before .enter .ensures ∙ ap (entered (a .m) (a .p)) (c .before .before .before .before .state-after .ensures .0)))
-    ∙ state-passed _ _ _ _ _ (c .before .before .before .before .state-after .ensures .0) (c .before .before .before .if1 .left)
+    let a = c .before .before .before .before .before .before .before .before .args in
+    let e = c .before .before .before .before .before .before .state-after .ensures .0 in
+    let n = c .before .before .before .enter .ensures .0 ∙ ap (entered (view (a .s .now)) (a .p)) e in
+    let k = c .before .set-timeout .ensures in
+    let r = ap (λ (m : Monitor). ruled m txOk) (k .0 ∙ ap (λ (m : Monitor). withParty m (a .p) (withTimeout (party m (a .p)) 0)) n) in
+    (passed-told _ _ _ _ _ e _ (c .coded2 .ensures) r (c .before .before .before .before .before .if1 .left), k .1)
 
 pub tx-close-spec : {M : Type 1} → statement M
 tx-close-spec =

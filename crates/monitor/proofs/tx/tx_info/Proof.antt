@@ -1,7 +1,7 @@
--- `tx_info` meets its contract: the code tells whether the party is in a transaction.
+-- `tx::tx_info` meets its contract: the code tells whether the party is in a transaction.
 -- Assumes nothing.
 use Rattle.monitor.proofs.Usual.{ℕ, ap, sym, _∙_, needs, eq-eqb, ne-eqb, eqb, pick-true, pick-false, infoOf}
-use Rattle.monitor.proofs.Asks.{blank-refused, state-passed}
+use Rattle.monitor.proofs.Telling.{blank-told, passed-told}
 use Rattle.monitor.proofs.tx.tx_info.Statement.{statement}
 use Rattle.monitor.proofs.tx.tx_info.Tie as tie
 
@@ -13,7 +13,7 @@ coded-requires c κs = search needs
 
 returns : tie.Need-returns
 unfolding infoOf
-returns c = c .coded .ensures ∙ blank-refused _ _ _ _ _ (c .before .before .state-after .ensures .0) (c .before .if1 .taken)
+returns c = blank-told _ _ _ _ _ (c .before .before .state-after .ensures .0) (c .coded .ensures) (c .before .if1 .taken)
 
 tx-of-requires : tie.Need-tx-of-requires
 tx-of-requires c κs = search needs
@@ -23,7 +23,9 @@ coded-requires-2 c κs = search needs
 
 returns-2 : tie.Need-returns-2
 unfolding infoOf
-returns-2 c = c .coded2 .ensures ∙ sym (pick-true _ _ _ (eq-eqb _ _ (sym (c .before .before .tx-of .ensures) ∙ c .before .if2 .taken))) ∙ state-passed _ _ _ _ _ (c .before .before .before .before .state-after .ensures .0) (c .before .before .before .if1 .left)
+returns-2 c =
+    let none = eq-eqb _ _ (sym (c .before .before .tx-of .ensures) ∙ c .before .if2 .taken) in
+    passed-told _ _ _ _ _ (c .before .before .before .before .state-after .ensures .0) _ (c .coded2 .ensures) (sym (pick-true _ _ _ none)) (c .before .before .before .if1 .left)
 
 coded-requires-3 : tie.Need-coded-requires-3
 coded-requires-3 c κs = search needs
@@ -31,8 +33,8 @@ coded-requires-3 c κs = search needs
 returns-3 : tie.Need-returns-3
 unfolding infoOf
 returns-3 c =
-    let e = c .before .before .tx-of .ensures in
-    c .coded3 .ensures ∙ sym (pick-false _ _ _ (sym (ap (λ (t : ℕ). eqb t 0) e) ∙ ne-eqb _ _ (c .before .if2 .left))) ∙ state-passed _ _ _ _ _ (c .before .before .before .before .state-after .ensures .0) (c .before .before .before .if1 .left)
+    let some = sym (ap (λ (t : ℕ). eqb t 0) (c .before .before .tx-of .ensures)) ∙ ne-eqb _ _ (c .before .if2 .left) in
+    passed-told _ _ _ _ _ (c .before .before .before .before .state-after .ensures .0) _ (c .coded3 .ensures) (sym (pick-false _ _ _ some)) (c .before .before .before .if1 .left)
 
 pub tx-info-spec : {M : Type 1} → statement M
 tx-info-spec =

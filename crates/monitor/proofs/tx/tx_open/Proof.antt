@@ -1,7 +1,7 @@
--- `tx_open` meets its contract: the table's blank is refused, or the next state is entered.
+-- `tx::tx_open` meets its contract: the table's blank is refused, or the next state is entered.
 -- Assumes nothing.
-use Rattle.monitor.proofs.Usual.{ap, _∙_, needs, Monitor, ruled, entered, openOf, txOk}
-use Rattle.monitor.proofs.Asks.{blank-refused, state-passed}
+use Rattle.monitor.proofs.Usual.{ap, _∙_, needs, Monitor, ruled, entered, openOf, txOk, view}
+use Rattle.monitor.proofs.Telling.{blank-told, passed-told}
 use Rattle.monitor.proofs.tx.tx_open.Statement.{statement}
 use Rattle.monitor.proofs.tx.tx_open.Tie as tie
 
@@ -13,7 +13,7 @@ coded-requires c κs = search needs
 
 returns : tie.Need-returns
 unfolding openOf
-returns c = c .coded .ensures ∙ blank-refused _ _ _ _ _ (c .before .before .state-after .ensures .0) (c .before .if1 .taken)
+returns c = (blank-told _ _ _ _ _ (c .before .before .state-after .ensures .0) (c .coded .ensures) (c .before .if1 .taken), c .before .before .before .before .pre .2)
 
 enter-requires : tie.Need-enter-requires
 enter-requires c κs = search needs
@@ -24,10 +24,11 @@ coded-requires-2 c κs = search needs
 returns-2 : tie.Need-returns-2
 unfolding openOf
 returns-2 c =
-    let a = c .before .before .before .before .args in
-    c .coded2 .ensures
-    ∙ ap (λ (n : Monitor). ruled n txOk) (c .before .enter .ensures ∙ ap (entered (a .m) (a .p)) (c .before .before .before .state-after .ensures .0))
-    ∙ state-passed _ _ _ _ _ (c .before .before .before .state-after .ensures .0) (c .before .before .if1 .left)
+    let a = c .before .before .before .before .before .before .args in
+    let e = c .before .before .before .before .state-after .ensures .0 in
+    let n = c .before .enter .ensures in
+    let r = ap (λ (m : Monitor). ruled m txOk) (n .0 ∙ ap (entered (view (a .s .now)) (a .p)) e) in
+    (passed-told _ _ _ _ _ e _ (c .coded2 .ensures) r (c .before .before .before .if1 .left), n .1)
 
 pub tx-open-spec : {M : Type 1} → statement M
 tx-open-spec =

@@ -1,7 +1,7 @@
--- `tx_set_commit_return` meets its contract: an answer for each argument, and no change.
+-- `tx::tx_set_commit_return` meets its contract: an answer for each argument, and no change.
 -- Assumes nothing.
 use Rattle.monitor.proofs.Usual.{sym, _∙_, needs, eq-eqb, ne-eqb, le-leb, lt-leb, pick-true, pick-false, commitReturnOf}
-use Rattle.monitor.proofs.Asks.{blank-refused, state-passed}
+use Rattle.monitor.proofs.Telling.{blank-told, passed-told}
 use Rattle.monitor.proofs.tx.tx_set_commit_return.Statement.{statement}
 use Rattle.monitor.proofs.tx.tx_set_commit_return.Tie as tie
 
@@ -13,28 +13,28 @@ coded-requires c κs = search needs
 
 returns : tie.Need-returns
 unfolding commitReturnOf
-returns c = c .coded .ensures ∙ blank-refused _ _ _ _ _ (c .before .before .state-after .ensures .0) (c .before .if1 .taken)
+returns c = blank-told _ _ _ _ _ (c .before .before .state-after .ensures .0) (c .coded .ensures) (c .before .if1 .taken)
 
 coded-requires-2 : tie.Need-coded-requires-2
 coded-requires-2 c κs = search needs
 
 returns-2 : tie.Need-returns-2
 unfolding commitReturnOf
-returns-2 c = c .coded2 .ensures ∙ sym (pick-false _ _ _ (lt-leb _ _ (c .before .if2 .taken))) ∙ state-passed _ _ _ _ _ (c .before .before .before .state-after .ensures .0) (c .before .before .if1 .left)
+returns-2 c = passed-told _ _ _ _ _ (c .before .before .before .state-after .ensures .0) _ (c .coded2 .ensures) (sym (pick-false _ _ _ (lt-leb _ _ (c .before .if2 .taken)))) (c .before .before .if1 .left)
 
 coded-requires-3 : tie.Need-coded-requires-3
 coded-requires-3 c κs = search needs
 
 returns-3 : tie.Need-returns-3
 unfolding commitReturnOf
-returns-3 c = c .coded3 .ensures ∙ sym (pick-true _ _ _ (le-leb _ _ (c .before .before .if2 .left)) ∙ pick-true _ _ _ (eq-eqb _ _ (c .before .if3 .taken))) ∙ state-passed _ _ _ _ _ (c .before .before .before .before .state-after .ensures .0) (c .before .before .before .if1 .left)
+returns-3 c = passed-told _ _ _ _ _ (c .before .before .before .before .state-after .ensures .0) _ (c .coded3 .ensures) (sym (pick-true _ _ _ (le-leb _ _ (c .before .before .if2 .left)) ∙ pick-true _ _ _ (eq-eqb _ _ (c .before .if3 .taken)))) (c .before .before .before .if1 .left)
 
 coded-requires-4 : tie.Need-coded-requires-4
 coded-requires-4 c κs = search needs
 
 returns-4 : tie.Need-returns-4
 unfolding commitReturnOf
-returns-4 c = c .coded4 .ensures ∙ sym (pick-true _ _ _ (le-leb _ _ (c .before .before .if2 .left)) ∙ pick-false _ _ _ (ne-eqb _ _ (c .before .if3 .left))) ∙ state-passed _ _ _ _ _ (c .before .before .before .before .state-after .ensures .0) (c .before .before .before .if1 .left)
+returns-4 c = passed-told _ _ _ _ _ (c .before .before .before .before .state-after .ensures .0) _ (c .coded4 .ensures) (sym (pick-true _ _ _ (le-leb _ _ (c .before .before .if2 .left)) ∙ pick-false _ _ _ (ne-eqb _ _ (c .before .if3 .left)))) (c .before .before .before .if1 .left)
 
 pub tx-set-commit-return-spec : {M : Type 1} → statement M
 tx-set-commit-return-spec =

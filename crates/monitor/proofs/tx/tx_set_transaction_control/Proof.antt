@@ -1,7 +1,7 @@
--- `tx_set_transaction_control` meets its contract: the state at unchained, and the one after it at chained.
+-- `tx::tx_set_transaction_control` meets its contract: the state at unchained, and the one after it at chained.
 -- Assumes nothing.
-use Rattle.monitor.proofs.Usual.{ℕ, _+_, ap, sym, _∙_, needs, le-leb, lt-leb, pick-true, pick-false, Monitor, ruled, entered, controlOf, txOk}
-use Rattle.monitor.proofs.Asks.{blank-refused, state-passed}
+use Rattle.monitor.proofs.Usual.{ℕ, _+_, ap, sym, _∙_, needs, le-leb, lt-leb, pick-true, pick-false, Monitor, ruled, entered, controlOf, txOk, view}
+use Rattle.monitor.proofs.Telling.{blank-told, passed-told}
 use Rattle.monitor.proofs.tx.tx_set_transaction_control.Statement.{statement}
 use Rattle.monitor.proofs.tx.tx_set_transaction_control.Tie as tie
 
@@ -13,14 +13,14 @@ coded-requires c κs = search needs
 
 returns : tie.Need-returns
 unfolding controlOf
-returns c = c .coded .ensures ∙ blank-refused _ _ _ _ _ (c .before .before .state-after .ensures .0) (c .before .if1 .taken)
+returns c = (blank-told _ _ _ _ _ (c .before .before .state-after .ensures .0) (c .coded .ensures) (c .before .if1 .taken), c .before .before .before .before .pre .2)
 
 coded-requires-2 : tie.Need-coded-requires-2
 coded-requires-2 c κs = search needs
 
 returns-2 : tie.Need-returns-2
 unfolding controlOf
-returns-2 c = c .coded2 .ensures ∙ sym (pick-false _ _ _ (lt-leb _ _ (c .before .if2 .taken))) ∙ state-passed _ _ _ _ _ (c .before .before .before .state-after .ensures .0) (c .before .before .if1 .left)
+returns-2 c = (passed-told _ _ _ _ _ (c .before .before .before .state-after .ensures .0) _ (c .coded2 .ensures) (sym (pick-false _ _ _ (lt-leb _ _ (c .before .if2 .taken)))) (c .before .before .if1 .left), c .before .before .before .before .before .pre .2)
 
 cast-enter : tie.Need-cast-enter
 cast-enter c = search needs
@@ -37,11 +37,11 @@ coded-requires-3 c κs = search needs
 returns-3 : tie.Need-returns-3
 unfolding controlOf
 returns-3 c =
-    let a = c .before .before .before .before .before .args in
-    c .coded3 .ensures
-    ∙ ap (λ (n : Monitor). ruled n txOk) (c .before .enter .ensures ∙ ap (λ (s : ℕ). entered (a .m) (a .p) (s + a .a)) (c .before .before .before .before .state-after .ensures .0))
-    ∙ sym (pick-true _ _ _ (le-leb _ _ (c .before .before .if2 .left)))
-    ∙ state-passed _ _ _ _ _ (c .before .before .before .before .state-after .ensures .0) (c .before .before .before .if1 .left)
+    let a = c .before .before .before .before .before .before .before .args in
+    let e = c .before .before .before .before .before .state-after .ensures .0 in
+    let n = c .before .enter .ensures in
+    let r = ap (λ (m : Monitor). ruled m txOk) (n .0 ∙ ap (λ (s : ℕ). entered (view (a .s .now)) (a .p) (s + a .a)) e) in
+    (passed-told _ _ _ _ _ e _ (c .coded3 .ensures) (r ∙ sym (pick-true _ _ _ (le-leb _ _ (c .before .before .before .if2 .left)))) (c .before .before .before .before .if1 .left), n .1)
 
 pub tx-set-transaction-control-spec : {M : Type 1} → statement M
 tx-set-transaction-control-spec =

@@ -1,7 +1,7 @@
--- `tx_set_transaction_timeout` meets its contract: the timeout is set if it is in range.
+-- `tx::tx_set_transaction_timeout` meets its contract: the timeout is set if it is in range.
 -- Assumes nothing.
 use Rattle.monitor.proofs.Usual.{ap, sym, _∙_, needs, le-leb, lt-leb, pick-true, pick-false, Monitor, ruled, timeoutOf, txOk}
-use Rattle.monitor.proofs.Asks.{blank-refused, state-passed}
+use Rattle.monitor.proofs.Telling.{blank-told, passed-told}
 use Rattle.monitor.proofs.tx.tx_set_transaction_timeout.Statement.{statement}
 use Rattle.monitor.proofs.tx.tx_set_transaction_timeout.Tie as tie
 
@@ -13,14 +13,14 @@ coded-requires c κs = search needs
 
 returns : tie.Need-returns
 unfolding timeoutOf
-returns c = c .coded .ensures ∙ blank-refused _ _ _ _ _ (c .before .before .state-after .ensures .0) (c .before .if1 .taken)
+returns c = (blank-told _ _ _ _ _ (c .before .before .state-after .ensures .0) (c .coded .ensures) (c .before .if1 .taken), c .before .before .before .before .pre .2)
 
 coded-requires-2 : tie.Need-coded-requires-2
 coded-requires-2 c κs = search needs
 
 returns-2 : tie.Need-returns-2
 unfolding timeoutOf
-returns-2 c = c .coded2 .ensures ∙ sym (pick-false _ _ _ (lt-leb _ _ (c .before .if2 .taken))) ∙ state-passed _ _ _ _ _ (c .before .before .before .state-after .ensures .0) (c .before .before .if1 .left)
+returns-2 c = (passed-told _ _ _ _ _ (c .before .before .before .state-after .ensures .0) _ (c .coded2 .ensures) (sym (pick-false _ _ _ (lt-leb _ _ (c .before .if2 .taken)))) (c .before .before .if1 .left), c .before .before .before .before .before .pre .2)
 
 set-timeout-requires : tie.Need-set-timeout-requires
 set-timeout-requires c κs = search needs
@@ -30,7 +30,10 @@ coded-requires-3 c κs = search needs
 
 returns-3 : tie.Need-returns-3
 unfolding timeoutOf
-returns-3 c = c .coded3 .ensures ∙ ap (λ (n : Monitor). ruled n txOk) (c .before .set-timeout .ensures) ∙ sym (pick-true _ _ _ (le-leb _ _ (c .before .before .if2 .left))) ∙ state-passed _ _ _ _ _ (c .before .before .before .before .state-after .ensures .0) (c .before .before .before .if1 .left)
+returns-3 c =
+    let n = c .before .set-timeout .ensures in
+    let r = ap (λ (m : Monitor). ruled m txOk) (n .0) ∙ sym (pick-true _ _ _ (le-leb _ _ (c .before .before .before .if2 .left))) in
+    (passed-told _ _ _ _ _ (c .before .before .before .before .before .state-after .ensures .0) _ (c .coded3 .ensures) r (c .before .before .before .before .if1 .left), n .1)
 
 pub tx-set-transaction-timeout-spec : {M : Type 1} → statement M
 tx-set-transaction-timeout-spec =

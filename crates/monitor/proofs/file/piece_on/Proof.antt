@@ -1,0 +1,29 @@
+-- `file::piece_on` meets its contract.
+use Rattle.monitor.proofs.Usual.{sym, _∙_, needs, not-true, not-false, view, pick-false}
+use Rattle.monitor.specs.File.{pieceOf}
+use Rattle.monitor.proofs.Calls.{piece-sound}
+use Rattle.monitor.proofs.file.piece_on.Statement.{statement}
+use Rattle.monitor.proofs.file.piece_on.Tie as tie
+
+is-sound-in-requires : tie.Need-is-sound-in-requires
+is-sound-in-requires c κs = search needs
+
+returns : tie.Need-returns
+unfolding pieceOf
+returns c = (sym (pick-false _ _ _ (sym (c .before .is-sound-in .ensures) ∙ not-true _ (c .if1 .taken))), c .before .before .before .before .pre)
+
+run-calls-requires : tie.Need-run-calls-requires
+run-calls-requires c κs = (sym (c .before .before .before .is-sound-in .ensures) ∙ not-false _ (c .before .before .if1 .left), c .before .before .before .before .before .before .pre)
+
+same-length : tie.Need-same-length
+same-length c = search needs
+
+returns-2 : tie.Need-returns-2
+returns-2 c =
+    let a = c .before .before .before .before .before .before .before .before .args in
+    let r = c .before .run-calls .ensures in
+    (piece-sound (view (a .s .now)) (a .input .now) (a .last) (a .answers .now) (sym (c .before .before .before .before .before .is-sound-in .ensures) ∙ not-false _ (c .before .before .before .before .if1 .left)) _ (r .0), r .1)
+
+pub piece-on-spec : {M : Type 1} → statement M
+piece-on-spec =
+    tie.close (tie.spec is-sound-in-requires returns run-calls-requires same-length returns-2)

@@ -1,0 +1,28 @@
+-- `links::change_at` meets its contract.
+use Rattle.monitor.proofs.Usual.{sym, _∙_, arith, needs, lt-ltb, le-ltb, view, pick-true, pick-false, count-kept}
+use Rattle.monitor.proofs.links.change_at.Statement.{statement}
+use Rattle.monitor.proofs.links.change_at.Tie as tie
+
+count-requires : tie.Need-count-requires
+count-requires c κs = search needs
+
+put-link-requires : tie.Need-put-link-requires
+put-link-requires c κs = search needs
+
+returns : tie.Need-returns
+returns c =
+    let s = c .before .before .before .before .before in
+    let e = c .before .before .before .count .ensures in
+    let k = c .put-link .ensures .0 in
+    let q = lt-ltb (s .args .i) (view (s .args .s .now) .count) (omega (arith, e, c .before .before .if1 .taken)) in
+    (k ∙ sym (pick-true _ _ _ q), c .put-link .ensures .1, count-kept k (s .pre .0))
+
+returns-2 : tie.Need-returns-2
+returns-2 c =
+    let s = c .before .before .before in
+    let e = c .before .count .ensures in
+    let q = le-ltb (s .args .i) (view (s .args .s .now) .count) (omega (arith, e, c .if1 .left)) in
+    (sym (pick-false _ _ _ q), s .pre .1, s .pre .0)
+
+pub change-at-spec : {M : Type 1} → statement M
+change-at-spec = tie.close (tie.spec count-requires put-link-requires returns returns-2)

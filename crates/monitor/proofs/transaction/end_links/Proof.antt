@@ -1,0 +1,139 @@
+-- `transaction::end_links` meets its contract: a sweep.
+-- Assumes nothing.
+use Prim.Native.Nat.{ℕ, _-_}
+use mathlib.Core.Path.{_≡_, ap, sym, _∙_}
+use mathlib.Core.Bool.{false}
+use mathlib.Core.List.{[], _∷_}
+use native.Mathlib.Omega.{arith}
+use borrow.Author.Needs.{needs}
+use borrow.Author.Tests.{eq-eqb, ne-eqb}
+use Rattle.rules.specs.declared.Link.{Link}
+use Rattle.rules.specs.Transaction.{orphaned, endOf}
+use Rattle.rules.proofs.Logic.{pick-true, pick-false, same-eq, same-ne}
+use Rattle.monitor.specs.View.{ofTx, view}
+use Rattle.monitor.proofs.Sweep.{Sweeps, sweep-first, sweep-drop, sweep-put, swept}
+use Rattle.monitor.proofs.transaction.end_links.Statement.{statement}
+use Rattle.monitor.proofs.transaction.end_links.Tie as tie
+
+others-stay : (t : ℕ) (l : Link) → ofTx t l ≡ false → endOf t l ≡ l ∷ []
+unfolding endOf ofTx
+others-stay t l e = pick-false _ _ _ e
+
+stays : (t : ℕ) (l : Link) → (l .tx ≡ t → ⊥) → endOf t l ≡ l ∷ []
+unfolding endOf
+stays t l h = pick-false _ _ _ (same-ne _ _ h)
+
+orphans : (t : ℕ) (l x : Link) → l .tx ≡ t → l .state ≡ 1 → x ≡ orphaned l → endOf t l ≡ x ∷ []
+unfolding endOf
+orphans t l x h k e = pick-true _ _ _ (same-eq _ _ h) ∙ pick-true _ _ _ (eq-eqb _ _ k) ∙ ap (λ (y : Link). y ∷ []) (sym e)
+
+goes : (t : ℕ) (l : Link) → l .tx ≡ t → (l .state ≡ 1 → ⊥) → endOf t l ≡ []
+unfolding endOf
+goes t l h k = pick-true _ _ _ (same-eq _ _ h) ∙ pick-false _ _ _ (ne-eqb _ _ k)
+
+abbrev Inv-loop : tie.InvT-loop
+Inv-loop s₀ t from len i₀ j₀ s i j = (len ≡ view s₀ .count) × Sweeps (endOf t) s₀ (view s₀) s i j
+
+abbrev μ-loop : tie.MeasureT-loop
+μ-loop s₀ t from len i₀ j₀ s i j = len - i
+
+count-requires : tie.Need-count-requires Inv-loop μ-loop
+count-requires c κs = search needs
+
+loop-holds : tie.Need-loop-holds Inv-loop μ-loop
+loop-holds c =
+    let s = c .before .before in
+    let t = s .args .t in
+    (c .count .ensures, sweep-first (endOf t) (ofTx t) (others-stay t) (s .args .s .now) (s .args .from) (s .pre .1) (s .pre .0) (s .pre .2))
+
+link-at-requires : tie.Need-link-at-requires Inv-loop μ-loop
+link-at-requires c κs = search needs
+
+put-link-requires : tie.Need-put-link-requires Inv-loop μ-loop
+put-link-requires c κs = search needs
+
+add-i : tie.Need-add-i Inv-loop μ-loop
+add-i c = search needs
+
+add-j : tie.Need-add-j Inv-loop μ-loop
+add-j c = search needs
+
+loop-less : tie.Need-loop-less Inv-loop μ-loop
+loop-less c = search needs
+
+loop-again : tie.Need-loop-again Inv-loop μ-loop
+loop-again c =
+    let v = c .before .before .before .before .before .before .before .loop in
+    let l = c .before .before .before .before .link-at in
+    let e = v .inv .0 in
+    (e, sweep-put (v .inv .1) (omega arith) (l .ensures) _ (c .put-link .ensures) (stays _ _ (c .before .before .if1 .taken)))
+
+orphan-requires : tie.Need-orphan-requires Inv-loop μ-loop
+orphan-requires c κs = search needs
+
+put-link-requires-2 : tie.Need-put-link-requires-2 Inv-loop μ-loop
+put-link-requires-2 c κs = search needs
+
+add-i-2 : tie.Need-add-i-2 Inv-loop μ-loop
+add-i-2 c = search needs
+
+add-j-2 : tie.Need-add-j-2 Inv-loop μ-loop
+add-j-2 c = search needs
+
+loop-less-2 : tie.Need-loop-less-2 Inv-loop μ-loop
+loop-less-2 c = search needs
+
+loop-again-2 : tie.Need-loop-again-2 Inv-loop μ-loop
+loop-again-2 c =
+    let v = c .before .before .before .before .before .before .before .before .before .before .loop in
+    let l = c .before .before .before .before .before .before .before .link-at in
+    let e = v .inv .0 in
+    (e, sweep-put (v .inv .1) (omega arith) (l .ensures) _ (c .put-link2 .ensures) (orphans _ _ _ (c .before .before .before .before .before .if1 .left) (c .before .before .before .if2 .taken) (c .before .before .orphan .ensures)))
+
+add-i-3 : tie.Need-add-i-3 Inv-loop μ-loop
+add-i-3 c = search needs
+
+loop-less-3 : tie.Need-loop-less-3 Inv-loop μ-loop
+loop-less-3 c = search needs
+
+loop-again-3 : tie.Need-loop-again-3 Inv-loop μ-loop
+loop-again-3 c =
+    let v = c .before .before .before .before .before .before .before .loop in
+    let l = c .before .before .before .before .link-at in
+    let e = v .inv .0 in
+    (e, sweep-drop (v .inv .1) (omega arith) (l .ensures) (goes _ _ (c .before .before .if1 .left) (c .if2 .left)))
+
+keep-first-requires : tie.Need-keep-first-requires Inv-loop μ-loop
+keep-first-requires c κs = search needs
+
+returns : tie.Need-returns Inv-loop μ-loop
+returns c =
+    let v = c .before .before .before .loop in
+    let e = v .inv .0 in
+    (swept (v .inv .1) _ (omega arith) (c .keep-first .ensures .0), c .keep-first .ensures .1, c .keep-first .ensures .2)
+
+pub end-links-spec : {M : Type 1} → statement M
+end-links-spec =
+    tie.close
+    (tie.spec
+    Inv-loop
+    μ-loop
+    count-requires
+    loop-holds
+    link-at-requires
+    put-link-requires
+    add-i
+    add-j
+    loop-less
+    loop-again
+    orphan-requires
+    put-link-requires-2
+    add-i-2
+    add-j-2
+    loop-less-2
+    loop-again-2
+    add-i-3
+    loop-less-3
+    loop-again-3
+    keep-first-requires
+    returns)
