@@ -1,8 +1,8 @@
--- Timeouts, deadlines and chained transactions: histories whose answers the outside implementation made, and the same ones spoilt in one place.
+-- Timeouts, deadlines and chained transactions: histories whose answers the outside implementation made, and the same ones altered, spoilt or harmless.
 -- Assumes nothing.
 use mathlib.Core.List.{List, [], _∷_}
 use lib.IntN.{pos, negsuc}
-use Rattle.histories.proofs.Rows.{Row, row, coded, without, commit, Spoilt, breaks, txOpen, txClose, txBegin, txCommit, txRollback, txInfo, txSetControl, txSetTimeout, tpadvertise, tpacall, dispatch, tpgetrply, tpreturn, terminate}
+use Rattle.histories.proofs.Rows.{Row, row, coded, without, commit, Spoilt, breaks, txOpen, txClose, txBegin, txCommit, txRollback, txInfo, txSetControl, txSetTimeout, tpadvertise, tpacall, dispatch, tpgetrply, tpreturn, terminate, noKind}
 
 -- timeout 10: begun at 5 and committed at 14, begun at 20 and too late at 30; malformed calls with a late clock in between
 abbrev pub deadline : List Row
@@ -11,7 +11,7 @@ deadline =
     ∷ row 1 0 txSetTimeout 10 0 0 (pos 0) 0 0 0 0 0
     ∷ row 5 0 txBegin 0 0 0 (pos 0) 0 0 0 0 1
     ∷ row 1000 16 txInfo 0 0 0 (pos 21) 0 0 0 0 0
-    ∷ row 1000 0 22 0 0 0 (pos 20) 0 0 0 0 0
+    ∷ row 1000 0 noKind 0 0 0 (pos 20) 0 0 0 0 0
     ∷ row 3 0 txInfo 0 0 0 (pos 1) 0 0 0 0 1
     ∷ row 14 0 txCommit 0 0 0 (pos 0) 0 0 0 0 0
     ∷ row 20 0 txBegin 0 0 0 (pos 0) 0 0 0 0 2
@@ -68,9 +68,55 @@ chained =
     ∷ row 63 0 txCommit 0 0 0 (negsuc 4) 0 0 0 0 0
     ∷ []
 
+-- without a timeout there is no deadline
+abbrev pub noTimeout : List Row
+noTimeout =
+    row 1 0 txOpen 0 0 0 (pos 0) 0 0 0 0 0
+    ∷ row 1 0 txBegin 0 0 0 (pos 0) 0 0 0 0 1
+    ∷ row 4294967295 0 txCommit 0 0 0 (pos 0) 0 0 0 0 0
+    ∷ []
+
+-- begun at clock 0 with a timeout of 1, and too late at 1
+abbrev pub atZero : List Row
+atZero =
+    row 0 0 txOpen 0 0 0 (pos 0) 0 0 0 0 0
+    ∷ row 0 0 txSetTimeout 1 0 0 (pos 0) 0 0 0 0 0
+    ∷ row 0 0 txBegin 0 0 0 (pos 0) 0 0 0 0 1
+    ∷ row 1 0 txCommit 0 0 0 (negsuc 1) 0 0 0 0 0
+    ∷ []
+
+-- another party sets a timeout and closes, the owner's too long timeout and its close are refused, and it sets one after the start: its own 10 stands
+abbrev pub othersTimeouts : List Row
+othersTimeouts =
+    row 1 3 txOpen 0 0 0 (pos 0) 0 0 0 0 0
+    ∷ row 1 0 txOpen 0 0 0 (pos 0) 0 0 0 0 0
+    ∷ row 1 3 txSetTimeout 10 0 0 (pos 0) 0 0 0 0 0
+    ∷ row 1 0 txSetTimeout 50 0 0 (pos 0) 0 0 0 0 0
+    ∷ row 1 3 txSetTimeout 2147483648 0 0 (negsuc 7) 0 0 0 0 0
+    ∷ row 2 3 txBegin 0 0 0 (pos 0) 0 0 0 0 1
+    ∷ row 3 3 txClose 0 0 0 (negsuc 4) 0 0 0 0 1
+    ∷ row 4 3 txCommit 0 0 0 (pos 0) 0 0 0 0 0
+    ∷ row 5 0 txClose 0 0 0 (pos 0) 0 0 0 0 0
+    ∷ row 5 3 txBegin 0 0 0 (pos 0) 0 0 0 0 2
+    ∷ row 6 3 txSetTimeout 100 0 0 (pos 0) 0 0 0 0 2
+    ∷ row 15 3 txCommit 0 0 0 (negsuc 1) 0 0 0 0 0
+    ∷ []
+
+-- the first of a chain is rolled back for a request that waits, and the next is committed at once
+abbrev pub chainedOn : List Row
+chainedOn =
+    row 1 0 txOpen 0 0 0 (pos 0) 0 0 0 0 0
+    ∷ row 1 1 tpadvertise 7 0 0 (pos 0) 1 0 0 0 0
+    ∷ row 1 0 txSetControl 1 0 0 (pos 0) 0 0 0 0 0
+    ∷ row 2 0 txBegin 0 0 0 (pos 0) 0 0 0 0 1
+    ∷ row 2 0 tpacall 7 0 0 (pos 0) 1 0 0 0 1
+    ∷ row 3 0 txCommit 0 0 0 (negsuc 1) 0 0 0 0 2
+    ∷ row 3 0 txCommit 0 0 0 (pos 0) 0 0 0 0 3
+    ∷ []
+
 -- ---- the tables
 abbrev pub real : List (List Row)
-real = deadline ∷ timeouts ∷ chained ∷ []
+real = deadline ∷ timeouts ∷ chained ∷ noTimeout ∷ atZero ∷ othersTimeouts ∷ chainedOn ∷ []
 
 abbrev pub spoilt : List Spoilt
 spoilt =
@@ -100,4 +146,21 @@ spoilt =
     ∷ breaks commit (coded 14 (pos 0) chained)
     -- the sixth is said to be rolled back, with no new one begun
     ∷ breaks commit (coded 16 (negsuc 101) chained)
+    -- rolled back at the last clock, without a timeout
+    ∷ breaks commit (coded 2 (negsuc 1) noTimeout)
+    -- committed at its deadline, begun at clock 0
+    ∷ breaks commit (coded 3 (pos 0) atZero)
+    -- committed late, as if a timeout of another's, a refused or a later one counted
+    ∷ breaks commit (coded 11 (pos 0) othersTimeouts)
+    -- the second of a chain is rolled back for what the first left open
+    ∷ breaks commit (coded 6 (negsuc 1) chainedOn)
+    ∷ []
+
+-- altered where the statement says nothing or the same: it still holds
+abbrev pub harmless : List (List Row)
+harmless =
+    -- a call with a late clock that is refused by question 19
+    coded 3 (pos 19) deadline
+    -- committed where the numbers are spent
+    ∷ coded 16 (negsuc 99) chained
     ∷ []

@@ -1,6 +1,9 @@
 pub mod Rows
+pub mod Deaths
 pub mod Conversations
 pub mod Deadlines
 pub mod Services
 pub mod Owners
+pub mod Faults
 pub mod Verdicts
+pub mod Answers

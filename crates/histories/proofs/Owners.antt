@@ -1,8 +1,8 @@
--- Transactions of several owners: histories whose answers the outside implementation made, and the same ones spoilt in one place.
+-- Transactions of several owners: histories whose answers the outside implementation made, and the same ones altered, spoilt or harmless.
 -- Assumes nothing.
 use mathlib.Core.List.{List, [], _∷_}
 use lib.IntN.{pos, negsuc}
-use Rattle.histories.proofs.Rows.{Row, row, coded, without, commit, alone, Spoilt, breaks, txOpen, txBegin, txCommit, tpadvertise, tpacall, dispatch, tpgetrply, tpreturn}
+use Rattle.histories.proofs.Rows.{Row, row, coded, asked, without, unanswered, partyField, commit, alone, Spoilt, breaks, txOpen, txBegin, txCommit, tpadvertise, tpacall, dispatch, tpgetrply, tpreturn}
 
 -- two owners, whose transactions go on side by side: one is committed while a service of the other is at work, which fails then
 abbrev pub owners : List Row
@@ -55,9 +55,33 @@ serversOwn =
     ∷ row 7 0 tpgetrply 1 0 0 (pos 0) 0 0 0 0 0
     ∷ []
 
+-- commits of a party that is not opened
+abbrev pub neverOpened : List Row
+neverOpened =
+    row 1 0 txCommit 0 0 0 (negsuc 4) 0 0 0 0 0
+    ∷ row 1 0 txCommit 0 0 0 (negsuc 4) 0 0 0 0 0
+    ∷ []
+
+-- no monitor gives it: a begin is refused by question 21, and its answer ends in a transaction
+abbrev pub refusedBegin : List Row
+refusedBegin =
+    row 1 0 txBegin 0 0 0 (pos 21) 0 0 0 0 1
+    ∷ row 2 0 txCommit 0 0 0 (negsuc 1) 0 0 0 0 0
+    ∷ []
+
+-- no monitor gives it: a request is dispatched after its reply was fetched
+abbrev pub dispatchedLate : List Row
+dispatchedLate =
+    row 1 0 txBegin 0 0 0 (pos 0) 0 0 0 0 1
+    ∷ row 1 0 tpacall 7 0 0 (pos 0) 1 0 0 0 1
+    ∷ row 1 0 tpgetrply 1 0 0 (pos 0) 0 0 0 0 1
+    ∷ row 1 1 dispatch 0 0 0 (pos 0) 1 0 0 0 1
+    ∷ row 1 0 txCommit 0 0 0 (pos 0) 0 0 0 0 0
+    ∷ []
+
 -- ---- the tables
 abbrev pub real : List (List Row)
-real = owners ∷ serversOwn ∷ []
+real = owners ∷ serversOwn ∷ neverOpened ∷ []
 
 abbrev pub spoilt : List Spoilt
 spoilt =
@@ -77,4 +101,15 @@ spoilt =
     ∷ breaks alone (without 13 owners)
     -- a server's own transaction committed while the service in it is at work
     ∷ breaks alone (without 10 serversOwn)
+    ∷ []
+
+-- altered where the statement says nothing or the same: it still holds
+abbrev pub harmless : List (List Row)
+harmless =
+    -- an answer that is not past question 21 tells no transaction to commit
+    refusedBegin
+    -- the dispatch and the commit have no places for an answer: nobody is at work, and committed
+    ∷ unanswered 3 dispatchedLate
+    -- the owner itself is at work
+    ∷ coded 21 (pos 0) (asked 12 partyField 3 owners)
     ∷ []

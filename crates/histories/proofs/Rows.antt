@@ -1,10 +1,10 @@
--- A history as rows, each a call and its answer; how a row is spoilt; and which rule of the statement that breaks.
+-- A history as rows, each a call and its answer; how a row is altered; and which rule of the statement that breaks.
 -- Assumes nothing.
 use mathlib.Core.List.{List, [], _∷_, _++_}
-use mathlib.Core.Bool.{Bool, true, false, not, _&&_}
+use mathlib.Core.Bool.{Bool, true, not, _&&_}
 use Prim.Native.Nat.{ℕ, zero, suc}
 use lib.IntN.{ℤ, pos}
-use lib.ListN.{set}
+use lib.ListN.{set, take, drop}
 use Rattle.rules.specs.History.{Event, senderRule, commitRule, aloneRule, thenList}
 
 -- six numbers of a call and six places of its answer
@@ -27,24 +27,29 @@ abbrev pub placesOf : List Row → List ℤ
 placesOf [] = []
 placesOf (r ∷ rs) = r .places ++ placesOf rs
 
--- the history that the rows tell, as a lent list and its answers
+-- the history h, and then the rows as a lent list and its answers
+abbrev pub thenRows : List Row → List Event → List Event
+thenRows rs h = thenList (numbersOf rs) (placesOf rs) h
+
+-- the history that the rows tell, in two lent lists: the first six calls, and the rest
 abbrev pub eventsOf : List Row → List Event
-eventsOf rs = thenList (numbersOf rs) (placesOf rs) []
+eventsOf rs = thenRows (drop 6 rs) (thenRows (take 6 rs) [])
 
--- ---- one row is spoilt, counted from 0
-module _ (f : Row → Row) where
-  abbrev pub atRow : ℕ → List Row → List Row
-  atRow n [] = []
-  atRow zero (r ∷ rs) = f r ∷ rs
-  atRow (suc n) (r ∷ rs) = r ∷ atRow n rs
-
--- its answer has another code
-abbrev pub coded : ℕ → ℤ → List Row → List Row
-coded n code rs = atRow (λ r. record { numbers = r .numbers; places = set (r .places) 0 code }) n rs
+-- ---- one row is altered, counted from 0
+abbrev pub atRow : (Row → Row) → ℕ → List Row → List Row
+atRow f n [] = []
+atRow f zero (r ∷ rs) = f r ∷ rs
+atRow f (suc n) (r ∷ rs) = r ∷ atRow f n rs
 
 -- its answer has another number at a place
+abbrev pub placed : ℕ → ℕ → ℤ → List Row → List Row
+placed n field z rs = atRow (λ r. record { numbers = r .numbers; places = set (r .places) field z }) n rs
+
+abbrev pub coded : ℕ → ℤ → List Row → List Row
+coded n code rs = placed n 0 code rs
+
 abbrev pub told : ℕ → ℕ → ℕ → List Row → List Row
-told n field v rs = atRow (λ r. record { numbers = r .numbers; places = set (r .places) field (pos v) }) n rs
+told n field v rs = placed n field (pos v) rs
 
 -- its call has another number at a place
 abbrev pub asked : ℕ → ℕ → ℕ → List Row → List Row
@@ -56,12 +61,28 @@ without n [] = []
 without zero (r ∷ rs) = rs
 without (suc n) (r ∷ rs) = r ∷ without n rs
 
--- places of an answer, and of a call
+-- from it on the answers have no places
+abbrev pub unanswered : ℕ → List Row → List Row
+unanswered n [] = []
+unanswered zero (r ∷ rs) = record { numbers = r .numbers; places = [] } ∷ unanswered zero rs
+unanswered (suc n) (r ∷ rs) = r ∷ unanswered n rs
+
+-- places of an answer
 abbrev pub valueField : ℕ
 valueField = 1
 
 abbrev pub eventField : ℕ
 eventField = 2
+
+abbrev pub txField : ℕ
+txField = 5
+
+-- places of a call
+abbrev pub partyField : ℕ
+partyField = 1
+
+abbrev pub kindField : ℕ
+kindField = 2
 
 abbrev pub aField : ℕ
 aField = 3
@@ -154,3 +175,7 @@ tpreturn = 20
 
 abbrev pub terminate : ℕ
 terminate = 21
+
+-- a number that is no kind
+abbrev pub noKind : ℕ
+noKind = 4294967295

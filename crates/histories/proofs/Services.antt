@@ -1,8 +1,8 @@
--- Requests and their services: histories whose answers the outside implementation made, and the same ones spoilt in one place.
+-- Requests and their services: histories whose answers the outside implementation made, and the same ones altered, spoilt or harmless.
 -- Assumes nothing.
 use mathlib.Core.List.{List, [], _∷_}
 use lib.IntN.{pos, negsuc}
-use Rattle.histories.proofs.Rows.{Row, row, coded, told, asked, without, valueField, bField, commit, alone, Spoilt, breaks, txOpen, txBegin, txCommit, txRollback, tpadvertise, tpacall, dispatch, tpgetrply, tpcancel, tpreturn, terminate}
+use Rattle.histories.proofs.Rows.{Row, row, coded, told, asked, without, valueField, txField, partyField, bField, commit, alone, Spoilt, breaks, txOpen, txBegin, txCommit, txRollback, tpadvertise, tpacall, dispatch, tpgetrply, tpcancel, tpreturn, terminate}
 
 -- a service calls another in the same transaction, and all end well; the servers commits are refused
 abbrev pub nested : List Row
@@ -143,9 +143,38 @@ outside =
     ∷ row 9 0 tpgetrply 4 0 0 (pos 30) 0 0 0 0 0
     ∷ []
 
+-- a return with a wrong number is refused; the server serves on, and fails
+abbrev pub refusedReturn : List Row
+refusedReturn =
+    row 1 0 txOpen 0 0 0 (pos 0) 0 0 0 0 0
+    ∷ row 1 1 txOpen 0 0 0 (pos 0) 0 0 0 0 0
+    ∷ row 1 1 tpadvertise 7 0 0 (pos 0) 1 0 0 0 0
+    ∷ row 2 0 txBegin 0 0 0 (pos 0) 0 0 0 0 1
+    ∷ row 2 0 tpacall 7 0 0 (pos 0) 1 0 0 0 1
+    ∷ row 3 1 dispatch 0 0 0 (pos 0) 1 64 0 7 1
+    ∷ row 3 1 tpreturn 3 0 0 (pos 22) 0 0 0 0 1
+    ∷ row 4 1 tpreturn 2 0 0 (pos 0) 4 0 0 0 0
+    ∷ row 5 0 tpgetrply 1 0 0 (pos 30) 0 0 0 0 1
+    ∷ row 5 0 txCommit 0 0 0 (negsuc 1) 0 0 0 0 0
+    ∷ []
+
+-- rolled back while the service is at work; its reply was asked for too early
+abbrev pub stillAtWork : List Row
+stillAtWork =
+    row 1 0 txOpen 0 0 0 (pos 0) 0 0 0 0 0
+    ∷ row 1 1 txOpen 0 0 0 (pos 0) 0 0 0 0 0
+    ∷ row 1 1 tpadvertise 7 0 0 (pos 0) 1 0 0 0 0
+    ∷ row 2 0 txBegin 0 0 0 (pos 0) 0 0 0 0 1
+    ∷ row 2 0 tpacall 7 0 0 (pos 0) 1 0 0 0 1
+    ∷ row 3 1 dispatch 0 0 0 (pos 0) 1 64 0 7 1
+    ∷ row 4 0 tpgetrply 1 0 0 (pos 32) 0 0 0 0 1
+    ∷ row 4 0 txCommit 0 0 0 (negsuc 1) 0 0 0 0 0
+    ∷ row 5 1 tpreturn 1 0 0 (pos 0) 8 0 0 0 0
+    ∷ []
+
 -- ---- the tables
 abbrev pub real : List (List Row)
-real = nested ∷ failing ∷ negligent ∷ falling ∷ unfinished ∷ outside ∷ []
+real = nested ∷ failing ∷ negligent ∷ falling ∷ unfinished ∷ outside ∷ refusedReturn ∷ stillAtWork ∷ []
 
 abbrev pub spoilt : List Spoilt
 spoilt =
@@ -179,8 +208,25 @@ spoilt =
     ∷ breaks commit (coded 25 (negsuc 1) outside)
     -- committed, though the open and failed request is of the transaction
     ∷ breaks commit (asked 15 bField 0 outside)
+    -- committed, though the service failed after a refused return
+    ∷ breaks commit (coded 9 (pos 0) refusedReturn)
     -- committed while the inner service is at work: it never returned
     ∷ breaks alone (without 12 nested)
     -- committed while a service is at work whose reply was fetched
     ∷ breaks alone (without 23 outside)
+    ∷ []
+
+-- altered where the statement says nothing or the same: it still holds
+abbrev pub harmless : List (List Row)
+harmless =
+    -- a commit of a server is answered 0: it does not own the transaction
+    coded 8 (pos 0) nested
+    -- the first answer in a transaction is to a dispatch: it has no owner
+    ∷ told 7 txField 9 nested
+    -- the owner itself is at work
+    ∷ asked 7 partyField 0 nested
+    -- a commit that is not to be is answered by some other number
+    ∷ coded 8 (pos 22) failing
+    -- a fall without a value ends the service, and not badly
+    ∷ coded 8 (pos 0) (told 6 valueField 0 falling)
     ∷ []

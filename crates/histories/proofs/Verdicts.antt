@@ -1,43 +1,29 @@
--- The history statement, computed: it holds of each history that the outside implementation answered, and of each spoilt one it does not.
--- One test is computed over each table, and one lemma turns it into the facts of each entry.
+-- The history statement, computed: it holds of each history that the outside implementation answered and of each harmless one, and of no spoilt or faulty one.
+-- One test is computed over each table, and the law of tables turns it into the facts of each entry.
 -- Assumes nothing.
 use mathlib.Core.Path.{_≡_, refl}
-use mathlib.Core.List.{List, [], _∷_, _++_}
-use mathlib.Core.Bool.{Bool, true, false, not, _&&_}
-use Prim.Native.Nat.{ℕ, zero, suc, _<_}
-use native.Mathlib.Nat.{le-of-suc-le-suc, not-suc-le-zero}
+use mathlib.Core.List.{List, [], _++_}
+use mathlib.Core.Bool.{Bool, true, not, _&&_}
+use Prim.Native.Nat.{ℕ, _<_}
 use lib.ListN.{length, getD}
 use Rattle.rules.specs.History.{some, ofKind, by, answeredBy, withValue, withEvent, past21, accepted, linkOn, on, isSend, differentEnds, givenSendOnly, sendsApart, endsIn, upToStart, startedBy, isOwner, latestTx, isOwnersCommit, committed, flag2, makes, isLinkOf, serves, failedEnd, disconnect, greatestClock, timeoutOf, timeoutAtStart, due, deadlinePassed, finishes, unfinished, reasonAgainst, othersAtWork, senderRule, commitRule, aloneRule, holds, readCall, readAnswer, thenCalls, thenList}
-use Rattle.histories.proofs.Rows.{Row, eventsOf, Rule, commit, onlyBreaks, Spoilt, breaks}
+use Rattle.rules.proofs.Tables.{every, entry}
+use Rattle.histories.proofs.Rows.{Row, eventsOf, commit, onlyBreaks, Spoilt, breaks}
+use Rattle.histories.proofs.Deaths
 use Rattle.histories.proofs.Conversations
 use Rattle.histories.proofs.Deadlines
 use Rattle.histories.proofs.Services
 use Rattle.histories.proofs.Owners
+use Rattle.histories.proofs.Faults
 
 abbrev pub real : List (List Row)
-real = Conversations.real ++ Deadlines.real ++ Services.real ++ Owners.real
+real = Deaths.real ++ Conversations.real ++ Deadlines.real ++ Services.real ++ Owners.real
 
 abbrev pub spoilt : List Spoilt
-spoilt = Conversations.spoilt ++ Deadlines.spoilt ++ Services.spoilt ++ Owners.spoilt
+spoilt = Deaths.spoilt ++ Conversations.spoilt ++ Deadlines.spoilt ++ Services.spoilt ++ Owners.spoilt
 
-module _ {A : Type 0} (f : A → Bool) where
-  every : List A → Bool
-  every [] = true
-  every (x ∷ xs) = f x && every xs
-
-  and-l : (a b : Bool) → a && b ≡ true → a ≡ true
-  and-l true b h = refl
-  and-l false b h = h
-
-  and-r : (a b : Bool) → a && b ≡ true → b ≡ true
-  and-r true b h = h
-  and-r false b h = cc
-
-  entry : (none : A) (xs : List A) → every xs ≡ true → (k : ℕ) → k < length xs → f (getD xs k none) ≡ true
-  unfolding every
-  entry none [] t k h = absurd (not-suc-le-zero h)
-  entry none (x ∷ xs) t zero h = and-l (f x) (every xs) t
-  entry none (x ∷ xs) t (suc k) h = entry none xs (and-r (f x) (every xs) t) k (le-of-suc-le-suc h)
+abbrev pub harmless : List (List Row)
+harmless = Deaths.harmless ++ Conversations.harmless ++ Deadlines.harmless ++ Services.harmless ++ Owners.harmless
 
 -- the statement holds of it
 abbrev pub kept : List Row → Bool
@@ -51,6 +37,15 @@ pub real-holds : (k : ℕ) → k < length real → kept (getD real k []) ≡ tru
 unfolding every some ofKind by answeredBy withValue withEvent past21 accepted linkOn on isSend differentEnds givenSendOnly sendsApart endsIn upToStart startedBy isOwner latestTx isOwnersCommit committed flag2 makes isLinkOf serves failedEnd disconnect greatestClock timeoutOf timeoutAtStart due deadlinePassed finishes unfinished reasonAgainst othersAtWork senderRule commitRule aloneRule holds readCall readAnswer thenCalls thenList
 real-holds = entry kept [] real refl
 
+pub harmless-holds : (k : ℕ) → k < length harmless → kept (getD harmless k []) ≡ true
+unfolding every some ofKind by answeredBy withValue withEvent past21 accepted linkOn on isSend differentEnds givenSendOnly sendsApart endsIn upToStart startedBy isOwner latestTx isOwnersCommit committed flag2 makes isLinkOf serves failedEnd disconnect greatestClock timeoutOf timeoutAtStart due deadlinePassed finishes unfinished reasonAgainst othersAtWork senderRule commitRule aloneRule holds readCall readAnswer thenCalls thenList
+harmless-holds = entry kept [] harmless refl
+
 pub spoilt-refuted : (k : ℕ) → k < length spoilt → refuted (getD spoilt k (breaks commit [])) ≡ true
 unfolding every some ofKind by answeredBy withValue withEvent past21 accepted linkOn on isSend differentEnds givenSendOnly sendsApart endsIn upToStart startedBy isOwner latestTx isOwnersCommit committed flag2 makes isLinkOf serves failedEnd disconnect greatestClock timeoutOf timeoutAtStart due deadlinePassed finishes unfinished reasonAgainst othersAtWork senderRule commitRule aloneRule holds readCall readAnswer thenCalls thenList
 spoilt-refuted = entry refuted (breaks commit []) spoilt refl
+
+-- nor does it hold of what the wrong rules answer
+pub faulty-refuted : (k : ℕ) → k < length Faults.faulty → refuted (getD Faults.faulty k (breaks commit [])) ≡ true
+unfolding every some ofKind by answeredBy withValue withEvent past21 accepted linkOn on isSend differentEnds givenSendOnly sendsApart endsIn upToStart startedBy isOwner latestTx isOwnersCommit committed flag2 makes isLinkOf serves failedEnd disconnect greatestClock timeoutOf timeoutAtStart due deadlinePassed finishes unfinished reasonAgainst othersAtWork senderRule commitRule aloneRule holds readCall readAnswer thenCalls thenList
+faulty-refuted = entry refuted (breaks commit []) Faults.faulty refl

@@ -1,0 +1,268 @@
+-- Wrong rules: for each edit of crates/rules/must-fail that a history can show, a history as the wrong rule answers it.
+-- The outside implementation made the answers, with that fault planted, each history as one lent list; the names are the edits'.
+-- Its program `faulty` prints them; where that is another fault's list too, one with another reason stands here.
+-- Assumes nothing.
+use mathlib.Core.List.{List, [], _∷_}
+use lib.IntN.{pos, negsuc}
+use Rattle.histories.proofs.Rows.{Row, row, sender, commit, Spoilt, breaks, txOpen, txBegin, txCommit, txSetTimeout, tpadvertise, tpacall, tpconnect, dispatch, tpgetrply, tpsend, tprecv, tpdiscon, tpreturn, terminate}
+
+-- ---- the commit
+-- a commit gives −2 whatever the record shows: rolled back with nothing against it
+abbrev pub alwaysRollsBack : List Row
+alwaysRollsBack =
+    row 0 0 txOpen 0 0 0 (pos 0) 0 0 0 0 0
+    ∷ row 0 0 txBegin 0 0 0 (pos 0) 0 0 0 0 1
+    ∷ row 0 0 txCommit 0 0 0 (negsuc 1) 0 0 0 0 0
+    ∷ []
+
+-- a commit does not ask whether the transaction is doomed: committed after its service died
+abbrev pub commitIgnoresDoom : List Row
+commitIgnoresDoom =
+    row 0 0 txOpen 0 0 0 (pos 0) 0 0 0 0 0
+    ∷ row 0 1 txOpen 0 0 0 (pos 0) 0 0 0 0 0
+    ∷ row 0 1 tpadvertise 7 0 0 (pos 0) 1 0 0 0 0
+    ∷ row 0 0 txBegin 0 0 0 (pos 0) 0 0 0 0 1
+    ∷ row 0 0 tpacall 7 0 0 (pos 0) 1 0 0 0 1
+    ∷ row 0 1 dispatch 0 0 0 (pos 0) 1 64 0 7 1
+    ∷ row 0 1 terminate 0 0 0 (pos 0) 2 0 0 0 0
+    ∷ row 0 0 tpgetrply 1 0 0 (pos 31) 0 0 0 0 1
+    ∷ row 0 0 txCommit 0 0 0 (pos 0) 0 0 0 0 0
+    ∷ []
+
+-- a commit does not ask whether the deadline has come: committed a second past it
+abbrev pub commitIgnoresDeadline : List Row
+commitIgnoresDeadline =
+    row 0 0 txOpen 0 0 0 (pos 0) 0 0 0 0 0
+    ∷ row 0 0 txSetTimeout 1 0 0 (pos 0) 0 0 0 0 0
+    ∷ row 0 0 txBegin 0 0 0 (pos 0) 0 0 0 0 1
+    ∷ row 2 0 txCommit 0 0 0 (pos 0) 0 0 0 0 0
+    ∷ []
+
+-- a commit does not ask for open originator ends: committed with a request unfinished
+abbrev pub commitIgnoresOpenEnds : List Row
+commitIgnoresOpenEnds =
+    row 0 0 txOpen 0 0 0 (pos 0) 0 0 0 0 0
+    ∷ row 0 0 tpadvertise 7 0 0 (pos 0) 1 0 0 0 0
+    ∷ row 0 0 txBegin 0 0 0 (pos 0) 0 0 0 0 1
+    ∷ row 0 0 tpacall 7 0 0 (pos 0) 1 0 0 0 1
+    ∷ row 0 0 txCommit 0 0 0 (pos 0) 0 0 0 0 0
+    ∷ []
+
+-- ---- deadlines and the clock
+-- expired only where the clock is past the deadline: committed at the deadline
+abbrev pub deadlineOnlyPast : List Row
+deadlineOnlyPast =
+    row 0 0 txOpen 0 0 0 (pos 0) 0 0 0 0 0
+    ∷ row 0 0 txSetTimeout 1 0 0 (pos 0) 0 0 0 0 0
+    ∷ row 0 0 txBegin 0 0 0 (pos 0) 0 0 0 0 1
+    ∷ row 1 0 txCommit 0 0 0 (pos 0) 0 0 0 0 0
+    ∷ []
+
+-- the clock becomes the call's: the deadline counts from 0, where the greatest clock was 1, and the commit is rolled back in time
+abbrev pub clockGoesBack : List Row
+clockGoesBack =
+    row 0 0 txOpen 0 0 0 (pos 0) 0 0 0 0 0
+    ∷ row 1 0 txSetTimeout 1 0 0 (pos 0) 0 0 0 0 0
+    ∷ row 0 0 txBegin 0 0 0 (pos 0) 0 0 0 0 1
+    ∷ row 1 0 txCommit 0 0 0 (negsuc 1) 0 0 0 0 0
+    ∷ []
+
+-- a call refused with 20 moves the clock: rolled back in time
+abbrev pub clockMovedByUnknownKind : List Row
+clockMovedByUnknownKind =
+    row 0 0 txOpen 0 0 0 (pos 0) 0 0 0 0 0
+    ∷ row 0 0 txSetTimeout 1 0 0 (pos 0) 0 0 0 0 0
+    ∷ row 0 0 txBegin 0 0 0 (pos 0) 0 0 0 0 1
+    ∷ row 1 0 22 0 0 0 (pos 20) 0 0 0 0 0
+    ∷ row 0 0 txCommit 0 0 0 (negsuc 1) 0 0 0 0 0
+    ∷ []
+
+-- a call refused with 21 moves the clock: rolled back in time
+abbrev pub clockMovedByUnknownParty : List Row
+clockMovedByUnknownParty =
+    row 0 0 txOpen 0 0 0 (pos 0) 0 0 0 0 0
+    ∷ row 0 0 txSetTimeout 1 0 0 (pos 0) 0 0 0 0 0
+    ∷ row 0 0 txBegin 0 0 0 (pos 0) 0 0 0 0 1
+    ∷ row 1 16 txCommit 0 0 0 (pos 21) 0 0 0 0 0
+    ∷ row 0 0 txCommit 0 0 0 (negsuc 1) 0 0 0 0 0
+    ∷ []
+
+-- ---- what dooms
+-- a doomed transaction's owner has no mark: committed after its conversation failed
+abbrev pub doomLeavesNoMark : List Row
+doomLeavesNoMark =
+    row 0 0 txOpen 0 0 0 (pos 0) 0 0 0 0 0
+    ∷ row 0 1 txOpen 0 0 0 (pos 0) 0 0 0 0 0
+    ∷ row 0 1 tpadvertise 7 0 0 (pos 0) 1 0 0 0 0
+    ∷ row 0 0 txBegin 0 0 0 (pos 0) 0 0 0 0 1
+    ∷ row 0 0 tpconnect 7 4 0 (pos 0) 1 0 0 0 1
+    ∷ row 0 1 dispatch 0 0 0 (pos 0) 1 65 0 7 1
+    ∷ row 0 1 tpreturn 2 0 0 (pos 0) 4 0 0 0 0
+    ∷ row 0 0 tprecv 1 0 0 (pos 29) 0 4 0 0 1
+    ∷ row 0 0 txCommit 0 0 0 (pos 0) 0 0 0 0 0
+    ∷ []
+
+-- outcome 4 does not doom: committed after its request failed
+abbrev pub failDoomsNothing : List Row
+failDoomsNothing =
+    row 0 0 txOpen 0 0 0 (pos 0) 0 0 0 0 0
+    ∷ row 0 1 txOpen 0 0 0 (pos 0) 0 0 0 0 0
+    ∷ row 0 1 tpadvertise 7 0 0 (pos 0) 1 0 0 0 0
+    ∷ row 0 0 txBegin 0 0 0 (pos 0) 0 0 0 0 1
+    ∷ row 0 0 tpacall 7 0 0 (pos 0) 1 0 0 0 1
+    ∷ row 0 1 dispatch 0 0 0 (pos 0) 1 64 0 7 1
+    ∷ row 0 1 tpreturn 2 0 0 (pos 0) 4 0 0 0 0
+    ∷ row 0 0 tpgetrply 1 0 0 (pos 30) 0 0 0 0 1
+    ∷ row 0 0 txCommit 0 0 0 (pos 0) 0 0 0 0 0
+    ∷ []
+
+-- a return dooms by no outcome: committed after a return out of turn, outcome 2
+abbrev pub failedReturnDoomsNothing : List Row
+failedReturnDoomsNothing =
+    row 0 0 txOpen 0 0 0 (pos 0) 0 0 0 0 0
+    ∷ row 0 1 txOpen 0 0 0 (pos 0) 0 0 0 0 0
+    ∷ row 0 1 tpadvertise 7 0 0 (pos 0) 1 0 0 0 0
+    ∷ row 0 0 txBegin 0 0 0 (pos 0) 0 0 0 0 1
+    ∷ row 0 0 tpconnect 7 4 0 (pos 0) 1 0 0 0 1
+    ∷ row 0 1 dispatch 0 0 0 (pos 0) 1 65 0 7 1
+    ∷ row 0 1 tpreturn 1 0 0 (pos 0) 2 0 0 0 0
+    ∷ row 0 0 tprecv 1 0 0 (pos 29) 0 2 0 0 1
+    ∷ row 0 0 txCommit 0 0 0 (pos 0) 0 0 0 0 0
+    ∷ []
+
+-- a party that falls leaves its served link as by success: committed after the fall
+abbrev pub fallDoomsNothing : List Row
+fallDoomsNothing =
+    row 0 0 txOpen 0 0 0 (pos 0) 0 0 0 0 0
+    ∷ row 0 1 txOpen 0 0 0 (pos 0) 0 0 0 0 0
+    ∷ row 0 1 tpadvertise 7 0 0 (pos 0) 1 0 0 0 0
+    ∷ row 0 0 txBegin 0 0 0 (pos 0) 0 0 0 0 1
+    ∷ row 0 0 tpacall 7 0 0 (pos 0) 1 0 0 0 1
+    ∷ row 0 1 dispatch 0 0 0 (pos 0) 1 64 0 7 1
+    ∷ row 0 1 terminate 0 0 0 (pos 0) 2 0 0 0 0
+    ∷ row 0 0 tpgetrply 1 0 0 (pos 0) 0 0 0 0 1
+    ∷ row 0 0 txCommit 0 0 0 (pos 0) 0 0 0 0 0
+    ∷ []
+
+-- a disconnect does not doom: committed after it
+abbrev pub disconnectDoomsNothing : List Row
+disconnectDoomsNothing =
+    row 0 0 txOpen 0 0 0 (pos 0) 0 0 0 0 0
+    ∷ row 0 0 tpadvertise 7 0 0 (pos 0) 1 0 0 0 0
+    ∷ row 0 0 txBegin 0 0 0 (pos 0) 0 0 0 0 1
+    ∷ row 0 0 tpconnect 7 4 0 (pos 0) 1 0 0 0 1
+    ∷ row 0 0 tpdiscon 1 0 0 (pos 0) 0 0 0 0 1
+    ∷ row 0 0 txCommit 0 0 0 (pos 0) 0 0 0 0 0
+    ∷ []
+
+-- a party with open originator ends returns with the outcome that it asks for: committed with its request unfinished
+abbrev pub successWithOpenEnds : List Row
+successWithOpenEnds =
+    row 0 0 txOpen 0 0 0 (pos 0) 0 0 0 0 0
+    ∷ row 0 1 txOpen 0 0 0 (pos 0) 0 0 0 0 0
+    ∷ row 0 1 tpadvertise 7 0 0 (pos 0) 1 0 0 0 0
+    ∷ row 0 0 txBegin 0 0 0 (pos 0) 0 0 0 0 1
+    ∷ row 0 0 tpacall 7 0 0 (pos 0) 1 0 0 0 1
+    ∷ row 0 1 dispatch 0 0 0 (pos 0) 1 64 0 7 1
+    ∷ row 0 1 tpacall 7 0 0 (pos 0) 2 0 0 0 1
+    ∷ row 0 1 tpreturn 1 0 0 (pos 0) 8 0 0 0 0
+    ∷ row 0 0 tpgetrply 1 0 0 (pos 0) 0 0 0 0 1
+    ∷ row 0 0 txCommit 0 0 0 (pos 0) 0 0 0 0 0
+    ∷ []
+
+-- ---- links and numbers
+-- a fetch that is refused with 32 removes the link: committed with the request unfinished
+abbrev pub earlyFetchRemovesLink : List Row
+earlyFetchRemovesLink =
+    row 0 0 txOpen 0 0 0 (pos 0) 0 0 0 0 0
+    ∷ row 0 0 tpadvertise 7 0 0 (pos 0) 1 0 0 0 0
+    ∷ row 0 0 txBegin 0 0 0 (pos 0) 0 0 0 0 1
+    ∷ row 0 0 tpacall 7 0 0 (pos 0) 1 0 0 0 1
+    ∷ row 0 0 tpgetrply 1 0 0 (pos 32) 0 0 0 0 1
+    ∷ row 0 0 txCommit 0 0 0 (pos 0) 0 0 0 0 0
+    ∷ []
+
+-- a fetched link stays: rolled back with nothing against it
+abbrev pub fetchLeavesLink : List Row
+fetchLeavesLink =
+    row 0 0 txOpen 0 0 0 (pos 0) 0 0 0 0 0
+    ∷ row 0 1 txOpen 0 0 0 (pos 0) 0 0 0 0 0
+    ∷ row 0 1 tpadvertise 7 0 0 (pos 0) 1 0 0 0 0
+    ∷ row 0 0 txBegin 0 0 0 (pos 0) 0 0 0 0 1
+    ∷ row 0 0 tpacall 7 0 0 (pos 0) 1 0 0 0 1
+    ∷ row 0 1 dispatch 0 0 0 (pos 0) 1 64 0 7 1
+    ∷ row 0 1 tpreturn 1 0 0 (pos 0) 8 0 0 0 0
+    ∷ row 0 0 tpgetrply 1 0 0 (pos 0) 0 0 0 0 1
+    ∷ row 0 0 txCommit 0 0 0 (negsuc 1) 0 0 0 0 0
+    ∷ []
+
+-- a new link does not raise the last link number: two conversations are link 1, and both originators send on it.
+-- Only a lent list shows it: the record is not sound after the first link, and single calls are answered 19 from there
+abbrev pub linkNumbersReused : List Row
+linkNumbersReused =
+    row 0 2 tpadvertise 7 0 0 (pos 0) 1 0 0 0 0
+    ∷ row 0 0 tpconnect 7 4 0 (pos 0) 1 0 0 0 0
+    ∷ row 0 0 tpsend 1 0 0 (pos 0) 0 0 0 0 0
+    ∷ row 0 0 tpdiscon 1 0 0 (pos 0) 0 0 0 0 0
+    ∷ row 0 1 tpconnect 7 4 0 (pos 0) 1 0 0 0 0
+    ∷ row 0 1 tpsend 1 0 0 (pos 0) 0 0 0 0 0
+    ∷ []
+
+-- a begin does not raise the last transaction number: both are in transaction 1, and who began it first may not commit
+abbrev pub transactionNumbersReused : List Row
+transactionNumbersReused =
+    row 0 0 txOpen 0 0 0 (pos 0) 0 0 0 0 0
+    ∷ row 0 1 txOpen 0 0 0 (pos 0) 0 0 0 0 0
+    ∷ row 0 1 txBegin 0 0 0 (pos 0) 0 0 0 0 1
+    ∷ row 0 0 txBegin 0 0 0 (pos 0) 0 0 0 0 1
+    ∷ row 0 1 txCommit 0 0 0 (negsuc 4) 0 0 0 0 1
+    ∷ []
+
+-- ---- turns
+-- either end may send while the turn is handed over: the new end sends before event 32
+abbrev pub newEndSendsEarly : List Row
+newEndSendsEarly =
+    row 0 1 txOpen 0 0 0 (pos 0) 0 0 0 0 0
+    ∷ row 0 1 tpadvertise 7 0 0 (pos 0) 1 0 0 0 0
+    ∷ row 0 0 tpconnect 7 4 0 (pos 0) 1 0 0 0 0
+    ∷ row 0 0 tpsend 1 1 0 (pos 0) 0 0 0 0 0
+    ∷ row 0 1 dispatch 0 0 0 (pos 0) 1 65 0 7 0
+    ∷ row 0 1 tpsend 1 0 0 (pos 0) 0 0 0 0 0
+    ∷ []
+
+-- the hand-over is received with code 0 and event 0: the new end sends without event 32
+abbrev pub turnWithoutEvent : List Row
+turnWithoutEvent =
+    row 0 1 txOpen 0 0 0 (pos 0) 0 0 0 0 0
+    ∷ row 0 1 tpadvertise 7 0 0 (pos 0) 1 0 0 0 0
+    ∷ row 0 0 tpconnect 7 4 0 (pos 0) 1 0 0 0 0
+    ∷ row 0 0 tpsend 1 1 0 (pos 0) 0 0 0 0 0
+    ∷ row 0 1 dispatch 0 0 0 (pos 0) 1 65 0 7 0
+    ∷ row 0 1 tprecv 1 0 0 (pos 0) 0 0 0 0 0
+    ∷ row 0 1 tpsend 1 0 0 (pos 0) 0 0 0 0 0
+    ∷ []
+
+-- ---- the table
+abbrev pub faulty : List Spoilt
+faulty =
+    breaks commit alwaysRollsBack
+    ∷ breaks commit commitIgnoresDoom
+    ∷ breaks commit commitIgnoresDeadline
+    ∷ breaks commit commitIgnoresOpenEnds
+    ∷ breaks commit deadlineOnlyPast
+    ∷ breaks commit clockGoesBack
+    ∷ breaks commit clockMovedByUnknownKind
+    ∷ breaks commit clockMovedByUnknownParty
+    ∷ breaks commit doomLeavesNoMark
+    ∷ breaks commit failDoomsNothing
+    ∷ breaks commit failedReturnDoomsNothing
+    ∷ breaks commit fallDoomsNothing
+    ∷ breaks commit disconnectDoomsNothing
+    ∷ breaks commit successWithOpenEnds
+    ∷ breaks commit earlyFetchRemovesLink
+    ∷ breaks commit fetchLeavesLink
+    ∷ breaks sender linkNumbersReused
+    ∷ breaks commit transactionNumbersReused
+    ∷ breaks sender newEndSendsEarly
+    ∷ breaks sender turnWithoutEvent
+    ∷ []
