@@ -1,5 +1,7 @@
 //! The monitor's record, its soundness, and the step of one call.
 
+use crate::faults::{is_on, Fault};
+
 /// How many parties share a monitor.
 pub const PARTIES: usize = 16;
 /// How many links there are at once.
@@ -340,6 +342,9 @@ impl Monitor {
     fn is_expired(&self, transaction: u32) -> bool {
         self.owner(transaction).is_some_and(|owner| {
             let deadline = self.parties[owner].deadline;
+            if is_on(Fault::DeadlineOnlyPast) {
+                return deadline != 0 && u64::from(self.clock) > deadline;
+            }
             deadline != 0 && u64::from(self.clock) >= deadline
         })
     }
@@ -382,7 +387,7 @@ impl Monitor {
     /// Dooms a transaction if it is live.
     fn doom(&mut self, transaction: u32) {
         if let Some(owner) = self.owner(transaction) {
-            self.parties[owner].doomed = true;
+            self.parties[owner].doomed = !is_on(Fault::DoomLeavesNoMark);
         }
     }
 
@@ -394,6 +399,9 @@ impl Monitor {
         self.last_transaction += 1;
         let party = &mut self.parties[party];
         party.owned = self.last_transaction;
+        if is_on(Fault::TransactionNumbersReused) {
+            self.last_transaction -= 1;
+        }
         party.deadline = match party.timeout {
             0 => 0,
             timeout => u64::from(self.clock) + u64::from(timeout),
@@ -411,6 +419,11 @@ impl Monitor {
         party.owned = 0;
         party.deadline = 0;
         party.doomed = false;
+        self.end_links(ending);
+    }
+
+    /// What a transaction's end makes of its links.
+    fn end_links(&mut self, ending: u32) {
         self.retain_links(|link| {
             if link.transaction != ending {
                 return true;
@@ -430,6 +443,11 @@ impl Monitor {
     /// Disconnects the conversation at `place`.
     fn disconnect_link(&mut self, place: usize) {
         self.doom(self.links[place].transaction);
+        self.hang_up(place);
+    }
+
+    /// The conversation at `place` goes or is cut.
+    fn hang_up(&mut self, place: usize) {
         if self.links[place].state == State::Working {
             self.links[place].cut_off();
         } else {
@@ -476,7 +494,10 @@ impl Monitor {
         self.end_transaction(party);
         // The served link is working, so it is still there, but may have moved.
         let i = self.find(served).expect("a working link stays");
-        if outcome != SUCCESS {
+        let dooms = outcome != SUCCESS
+            && !is_on(Fault::FailedReturnDoomsNothing)
+            && !(outcome == FAIL && is_on(Fault::FailDoomsNothing));
+        if dooms {
             self.doom(self.links[i].transaction);
         }
         self.parties[party].served = 0;
@@ -512,17 +533,27 @@ impl Monitor {
 
     /// Commit and rollback.
     fn complete(&mut self, p: usize, commit: bool) -> Decision {
-        let t = self.transaction(p);
-        ask(self.owner(t) == Some(p), -5)?;
+        let mut t = self.transaction(p);
+        if is_on(Fault::NonOwnerCommits) {
+            // The transaction that the caller owns, 0 for a server.
+            t = self.parties[p].owned;
+        } else {
+            ask(self.owner(t) == Some(p), -5)?;
+        }
         let good = !commit
-            || !(self.parties[p].doomed
-                || self.is_expired(t)
+            || !(self.parties[p].doomed && !is_on(Fault::CommitIgnoresDoom)
+                || self.is_expired(t) && !is_on(Fault::CommitIgnoresDeadline)
                 || self
                     .links()
                     .iter()
-                    .any(|link| link.transaction == t && link.open));
+                    .any(|link| link.transaction == t && link.open)
+                    && !is_on(Fault::CommitIgnoresOpenEnds)
+                || is_on(Fault::AlwaysRollsBack));
         let mut code = if good { 0 } else { -2 };
         self.end_transaction(p);
+        if is_on(Fault::NonOwnerCommits) && t == 0 {
+            self.end_links(0);
+        }
         if self.parties[p].control == 1 && !self.begin_transaction(p) {
             code -= 100;
         }
@@ -599,7 +630,11 @@ impl Monitor {
             ..Link::fresh()
         };
         self.link_count += 1;
-        Ok(Reply::value(if no_reply { 0 } else { self.last_link }))
+        let value = if no_reply { 0 } else { self.last_link };
+        if is_on(Fault::LinkNumbersReused) {
+            self.last_link -= 1;
+        }
+        Ok(Reply::value(value))
     }
 
     fn take(&mut self, p: usize) -> Decision {
@@ -639,8 +674,13 @@ impl Monitor {
         let i = self.open_end(p, Kind::Request, a)?;
         let link = self.links[i];
         ask(!self.is_expired(link.transaction), 28)?;
+        if is_on(Fault::EarlyFetchRemovesLink) && link.state != State::Returned {
+            self.remove_link(i);
+        }
         ask(link.state == State::Returned, 32)?;
-        self.remove_link(i);
+        if !is_on(Fault::FetchLeavesLink) {
+            self.remove_link(i);
+        }
         let code = match link.outcome {
             SUCCESS => 0,
             FAIL => 30,
@@ -717,11 +757,12 @@ impl Monitor {
             return Ok(news);
         }
         let link = &mut self.links[i];
-        ask(link.holder == end && !link.handing_over, 23)?;
+        let early = is_on(Fault::NewEndSendsEarly) && (link.holder == end || link.handing_over);
+        ask(early || (link.holder == end && !link.handing_over), 23)?;
         ask(usize::from(link.unread_count) < UNREAD, 32)?;
         link.push_unread(c);
-        if b == 1 {
-            link.handing_over = true;
+        if b == 1 || early {
+            link.handing_over = b == 1;
         }
         Ok(Reply::code(0))
     }
@@ -739,6 +780,12 @@ impl Monitor {
         if link.unread_count == 0 && link.handing_over {
             link.holder = end;
             link.handing_over = false;
+            if is_on(Fault::TurnWithoutEvent) {
+                return Ok(Reply {
+                    token,
+                    ..Reply::default()
+                });
+            }
             return Ok(Reply {
                 code: 29,
                 event: 32,
@@ -754,7 +801,11 @@ impl Monitor {
 
     fn disconnect(&mut self, p: usize, a: u32) -> Decision {
         let i = self.open_end(p, Kind::Conversation, a)?;
-        self.disconnect_link(i);
+        if is_on(Fault::DisconnectDoomsNothing) {
+            self.hang_up(i);
+        } else {
+            self.disconnect_link(i);
+        }
         Ok(Reply::code(0))
     }
 
@@ -767,8 +818,11 @@ impl Monitor {
             .expect("a sound record has the served link");
         let link = &self.links[i];
         let talking = link.kind == Kind::Conversation;
+        let plain = if a == 1 { SUCCESS } else { FAIL };
         let outcome =
-            if party.owned != 0 || self.has_open_end(p) || (talking && link.cut != Cut::No) {
+            if is_on(Fault::SuccessWithOpenEnds) && (party.owned != 0 || self.has_open_end(p)) {
+                plain
+            } else if party.owned != 0 || self.has_open_end(p) || (talking && link.cut != Cut::No) {
                 ERROR
             } else if talking && !link.server_is_free_holder() {
                 if a == 2 && c == 0 {
@@ -776,10 +830,8 @@ impl Monitor {
                 } else {
                     ERROR
                 }
-            } else if a == 1 {
-                SUCCESS
             } else {
-                FAIL
+                plain
             };
         self.end_service(p, outcome, c);
         Ok(Reply::value(u32::from(outcome)))
@@ -788,7 +840,12 @@ impl Monitor {
     fn fall(&mut self, p: usize) -> Decision {
         let serving = self.parties[p].served != 0;
         if serving {
-            self.end_service(p, ERROR, 0);
+            let left_with = if is_on(Fault::FallDoomsNothing) {
+                SUCCESS
+            } else {
+                ERROR
+            };
+            self.end_service(p, left_with, 0);
         } else {
             self.close_own_links(p);
             self.end_transaction(p);
@@ -829,16 +886,26 @@ impl Monitor {
     }
 
     /// A call on a sound record: everything after question 19.
-    fn step_sound(&mut self, call: [u32; 6]) -> [i64; 6] {
+    pub(crate) fn step_sound(&mut self, call: [u32; 6]) -> [i64; 6] {
         let [clock, party, kind, a, b, c] = call;
         if !(1..=21).contains(&kind) {
+            if is_on(Fault::ClockMovedByUnknownKind) {
+                self.clock = self.clock.max(clock);
+            }
             return [20, 0, 0, 0, 0, 0];
         }
         let p = party as usize;
         if p >= PARTIES {
+            if is_on(Fault::ClockMovedByUnknownParty) {
+                self.clock = self.clock.max(clock);
+            }
             return [21, 0, 0, 0, 0, 0];
         }
-        self.clock = self.clock.max(clock);
+        self.clock = if is_on(Fault::ClockGoesBack) {
+            clock
+        } else {
+            self.clock.max(clock)
+        };
         let reply = self.decide(p, kind, a, b, c).unwrap_or_else(Reply::code);
         [
             reply.code,

@@ -1,189 +1,13 @@
-//! A host of the proved monitor: declares its record, calls it as C does, and holds it to this implementation.
+//! A host of the proved monitor: lends it its record as C does, and holds it to this implementation.
 //!
-//! First single calls and lists on random histories: the answers and the whole record, changed in place. Then damaged
-//! records, which are refused and stay. Then nanoseconds a call, beside this implementation in the same run.
+//! Single calls, lists and drill files on random histories: the answers and the whole record, changed in place. Which records are equal
+//! and sound, two of a history and two that differ in one word. Damaged records, which are refused and stay.
 
+use outside::drill;
 use outside::generator::{self, Rng};
-use outside::monitor::{self as plain, Cut, End, Kind, State, LINKS, PARTIES, UNREAD};
-use std::hint::black_box;
-use std::time::Instant;
-
-#[repr(C)]
-#[derive(Clone, Copy, Debug, Default, PartialEq, Eq)]
-struct Party {
-    opened: u8,
-    control: u8,
-    timeout: u32,
-    services: u64,
-    owned: u32,
-    deadline: u64,
-    rollbackonly: u8,
-    served: u32,
-}
-
-#[repr(C)]
-#[derive(Clone, Copy, Debug, Default, PartialEq, Eq)]
-struct Link {
-    number: u32,
-    kind: u8,
-    originator: u8,
-    attached: u8,
-    service: u8,
-    tx: u32,
-    state: u8,
-    server: u8,
-    first: u32,
-    outcome: u8,
-    ending: u32,
-    sender: u8,
-    granting: u8,
-    disconnected: u8,
-    unread: [u32; UNREAD],
-    filled: u8,
-}
-
-#[repr(C)]
-#[derive(Clone, Copy, Debug, Default, PartialEq, Eq)]
-struct Monitor {
-    clock: u32,
-    lastlink: u32,
-    lasttx: u32,
-    parties: [Party; PARTIES],
-    links: [Link; LINKS],
-    count: usize,
-}
-
-#[repr(C)]
-#[derive(Clone, Copy, Debug)]
-struct Call {
-    clock: u32,
-    party: u32,
-    kind: u32,
-    a: u32,
-    b: u32,
-    c: u32,
-}
-
-#[repr(C)]
-#[derive(Clone, Copy, Debug)]
-struct Answer {
-    code: i64,
-    value: u32,
-    event: u32,
-    token: u32,
-    service: u32,
-    tx: u32,
-}
-
-// A slice of the library's is a pointer and a length.
-#[link(name = "monitor", kind = "static")]
-extern "C" {
-    fn monitor_step(m: *mut Monitor, call: Call) -> Answer;
-    fn monitor_run(
-        m: *mut Monitor,
-        calls: *const u32,
-        numbers: usize,
-        answers: *mut i64,
-        places: usize,
-    ) -> i64;
-}
-
-fn step(m: &mut Monitor, [clock, party, kind, a, b, c]: [u32; 6]) -> [i64; 6] {
-    let call = Call {
-        clock,
-        party,
-        kind,
-        a,
-        b,
-        c,
-    };
-    let r = unsafe { monitor_step(m, call) };
-    let [value, event, token, service, tx] =
-        [r.value, r.event, r.token, r.service, r.tx].map(i64::from);
-    [r.code, value, event, token, service, tx]
-}
-
-fn run(m: &mut Monitor, calls: &[u32], answers: &mut [i64]) -> i64 {
-    unsafe {
-        monitor_run(
-            m,
-            calls.as_ptr(),
-            calls.len(),
-            answers.as_mut_ptr(),
-            answers.len(),
-        )
-    }
-}
-
-/// A record of this implementation as the host's; what stands past the last link and the last unread token is 0.
-fn record(m: &plain::Monitor) -> Monitor {
-    let mut r = Monitor {
-        clock: m.clock,
-        lastlink: m.last_link,
-        lasttx: m.last_transaction,
-        parties: m.parties.map(party),
-        count: m.link_count,
-        ..Monitor::default()
-    };
-    for (place, l) in r.links.iter_mut().zip(m.links()) {
-        *place = link(l);
-    }
-    r
-}
-
-fn party(p: plain::Party) -> Party {
-    Party {
-        opened: p.opened.into(),
-        control: p.control,
-        timeout: p.timeout,
-        services: p.services,
-        owned: p.owned,
-        deadline: p.deadline,
-        rollbackonly: p.doomed.into(),
-        served: p.served,
-    }
-}
-
-fn link(l: &plain::Link) -> Link {
-    let mut unread = l.unread;
-    unread[l.unread_count.into()..].fill(0);
-    Link {
-        number: l.number,
-        kind: match l.kind {
-            Kind::Request => 0,
-            Kind::Conversation => 1,
-        },
-        originator: l.originator,
-        attached: l.open.into(),
-        service: l.service.try_into().expect("a service is at most 64"),
-        tx: l.transaction,
-        state: match l.state {
-            State::Waiting => WAITING,
-            State::Working => WORKING,
-            State::Returned => RETURNED,
-        },
-        server: l.server,
-        first: l.first_token,
-        outcome: l.outcome,
-        ending: l.ending_token,
-        sender: match l.holder {
-            End::Originator => 0,
-            End::Server => 1,
-        },
-        granting: l.handing_over.into(),
-        disconnected: match l.cut {
-            Cut::No => 0,
-            Cut::Cut => 1,
-            Cut::Told => 2,
-        },
-        unread,
-        filled: l.unread_count,
-    }
-}
-
-const WAITING: u8 = 0;
-const WORKING: u8 = 1;
-const RETURNED: u8 = 2;
+use outside::lent::{equal, file, fresh, is_sound, run, step, Passed};
+use outside::monitor::{self as plain, LINKS, PARTIES};
+use outside::words::{held, record, Link, Monitor, RETURNED, WAITING, WORDS, WORKING};
 
 /// A record in the host's memory, with bytes around it that no call may touch.
 struct Lent {
@@ -260,11 +84,115 @@ fn check_lists(seed: u64, length: u64) -> u64 {
     lists
 }
 
+/// A history as a drill file: whole, cut, with a bad number behind it, and with too few places.
+fn check_file(seed: u64, length: u64) {
+    let mut bytes = Vec::new();
+    let mut ends = Vec::new();
+    let mut expected = Vec::new();
+    let mut after = Monitor::default();
+    generator::random(seed, length, &mut |m, call, answer| {
+        drill::push_call(&call, &mut bytes);
+        ends.push(bytes.len());
+        expected.extend(answer);
+        after = record(m);
+    });
+    let calls = ends.len();
+    let whole = Passed {
+        code: 0,
+        calls,
+        used: bytes.len(),
+    };
+    let check = |input: &[u8], code| {
+        let mut lent = Lent::new(Monitor::default());
+        let mut answers = vec![-77; 6 * calls + 5];
+        let passed = file(&mut lent.record, input, &mut answers);
+        assert_eq!(passed, Passed { code, ..whole });
+        assert_eq!(answers[..6 * calls], expected);
+        assert_eq!(answers[6 * calls..], [-77; 5]);
+        lent.is(&after);
+        let mut few = vec![-77; 6 * calls - 1];
+        let mut lent = Lent::new(after);
+        let refused = Passed {
+            code: 16,
+            calls: 0,
+            used: 0,
+        };
+        assert_eq!(file(&mut lent.record, input, &mut few), refused);
+        assert!(few.iter().all(|&place| place == -77));
+        lent.is(&after);
+    };
+    check(&bytes, 0);
+    bytes.extend([0, 0, 0x80]);
+    check(&bytes, 17);
+    bytes.push(0);
+    check(&bytes, 18);
+}
+
+/// Records of two histories, by turns: which are equal.
+fn check_equal(seed: u64, length: u64) -> u64 {
+    let mut kept = [const { plain::Monitor::fresh() }; 2];
+    let mut pairs = 0;
+    generator::random(seed, length, &mut |m, _, _| {
+        let here = record(m);
+        assert!(is_sound(&here) && equal(&here, &here));
+        for other in &kept {
+            assert_eq!(equal(&here, &record(other)), plain::equal(m, other));
+            pairs += 1;
+        }
+        kept.swap(0, 1);
+        kept[0] = m.clone();
+    });
+    pairs
+}
+
+/// A record with each of its words changed by itself: is it sound, and equal to the one before? A number that this implementation cannot
+/// hold is none that its field may have, and the record that has it is not sound.
+fn check_words(m: &Monitor) -> u64 {
+    let before = held(m).expect("a record of this implementation");
+    let mut changes = 0;
+    for at in 0..WORDS {
+        let mut changed = *m;
+        let word = m.words()[at];
+        for other in [word ^ 1, word ^ 2, word ^ 8, !word, u32::MAX] {
+            changed.words_mut()[at] = other;
+            let (sound, same) = held(&changed).map_or((false, false), |after| {
+                (after.is_sound(), plain::equal(&before, &after))
+            });
+            let told = [
+                is_sound(&changed),
+                equal(&changed, &changed),
+                equal(m, &changed),
+                equal(&changed, m),
+            ];
+            assert_eq!(
+                told,
+                [sound, sound, same, same],
+                "word {at}: {other}, {m:?}"
+            );
+            changes += 1;
+        }
+    }
+    changes
+}
+
+/// Every hundredth record of a history.
+fn check_changed(seed: u64, length: u64) -> u64 {
+    let mut calls = 0u64;
+    let mut changes = 0;
+    generator::random(seed, length, &mut |m, _, _| {
+        if calls.is_multiple_of(100) {
+            changes += check_words(&record(m));
+        }
+        calls += 1;
+    });
+    changes
+}
+
 type Damage = (&'static str, fn(&mut Monitor));
 
 /// The place of the first link in a state.
-fn place(m: &Monitor, state: u8) -> usize {
-    let live = &m.links[..m.count];
+fn place(m: &Monitor, state: u32) -> usize {
+    let live = &m.links[..m.count as usize];
     live.iter()
         .position(|l| l.state == state)
         .expect("there is one")
@@ -278,19 +206,18 @@ fn returned(m: &mut Monitor) -> &mut Link {
 /// The first working link and the party that serves it.
 fn served(m: &Monitor) -> (Link, usize) {
     let l = m.links[place(m, WORKING)];
-    (l, l.server.into())
+    (l, l.server as usize)
 }
 
 /// Each way that soundness names, for a sound record with a waiting, a working and a returned link and room for another.
-const DAMAGES: [Damage; 31] = [
+const DAMAGES: [Damage; 30] = [
     ("33 links", |m| m.count = 33),
-    ("2^32 more links", |m| m.count += 1 << 32),
-    ("the most links", |m| m.count = usize::MAX),
+    ("the most links", |m| m.count = u32::MAX),
     ("a number twice", |m| m.links[1].number = m.links[0].number),
     ("numbers that fall", |m| m.links.swap(0, 1)),
     ("number 0", |m| m.links[0].number = 0),
     ("a number past the last", |m| {
-        m.links[m.count - 1].number = m.lastlink + 1;
+        m.links[m.count as usize - 1].number = m.lastlink + 1;
     }),
     ("last link number 60001", |m| m.lastlink = 60_001),
     ("last transaction number 60001", |m| m.lasttx = 60_001),
@@ -313,7 +240,7 @@ const DAMAGES: [Damage; 31] = [
     ("served, no link", |m| m.parties[3].served = m.lastlink + 1),
     ("served, past the last link", |m| {
         let (l, p) = served(m);
-        m.links[m.count] = Link {
+        m.links[m.count as usize] = Link {
             number: m.lastlink + 1,
             ..l
         };
@@ -321,12 +248,12 @@ const DAMAGES: [Damage; 31] = [
     }),
     ("served, a waiting link", |m| {
         let n = place(m, WAITING);
-        let p = usize::from(m.links[n].server);
+        let p = m.links[n].server as usize;
         m.parties[p].served = m.links[n].number;
     }),
     ("served, a returned link", |m| {
         let Link { number, server, .. } = *returned(m);
-        m.parties[usize::from(server)].served = number;
+        m.parties[server as usize].served = number;
     }),
     ("served, of another server", |m| {
         let (l, p) = served(m);
@@ -344,6 +271,7 @@ fn check_damages(m: &Monitor, call: [u32; 6]) {
         let mut damaged = *m;
         damage(&mut damaged);
         let mut lent = Lent::new(damaged);
+        assert!(!is_sound(&damaged) && !equal(&damaged, &damaged), "{name}");
         assert_eq!(step(&mut lent.record, call), [19, 0, 0, 0, 0, 0], "{name}");
         lent.is(&damaged);
         let mut answers = [-77; 8];
@@ -352,7 +280,20 @@ fn check_damages(m: &Monitor, call: [u32; 6]) {
         assert_eq!(run(&mut lent.record, &[], &mut answers), 19, "{name}");
         assert_eq!(run(&mut lent.record, &[], &mut []), 19, "{name}");
         lent.is(&damaged);
+        let refused = Passed {
+            code: 19,
+            calls: 0,
+            used: 0,
+        };
+        assert_eq!(
+            file(&mut lent.record, &[0; 6], &mut answers),
+            refused,
+            "{name}"
+        );
+        lent.is(&damaged);
         assert_eq!(answers, [-77; 8], "{name}");
+        fresh(&mut lent.record);
+        lent.is(&Monitor::default());
     }
 }
 
@@ -361,10 +302,10 @@ fn check_damaged(seed: u64, length: u64) -> u64 {
     let mut fit = 0u64;
     generator::random(seed, length, &mut |after, call, _| {
         let m = record(after);
-        let live = &m.links[..m.count];
+        let live = &m.links[..m.count as usize];
         let has = |state| live.iter().any(|l| l.state == state);
         // The working link is the one that its server serves, in every history.
-        if m.count < LINKS && has(WAITING) && has(WORKING) && has(RETURNED) {
+        if (m.count as usize) < LINKS && has(WAITING) && has(WORKING) && has(RETURNED) {
             if fit.is_multiple_of(100) {
                 check_damages(&m, call);
             }
@@ -374,32 +315,7 @@ fn check_damaged(seed: u64, length: u64) -> u64 {
     fit.div_ceil(100)
 }
 
-/// The best of some rounds of each, taken in turn: nanoseconds a call.
-fn best(calls: usize, mut proved: impl FnMut(), mut plain: impl FnMut()) -> [f64; 2] {
-    let time = |round: &mut dyn FnMut()| {
-        let start = Instant::now();
-        round();
-        start.elapsed().as_nanos() as f64 / calls as f64
-    };
-    let mut least = [f64::INFINITY; 2];
-    for _ in 0..30 {
-        least[0] = least[0].min(time(&mut proved));
-        least[1] = least[1].min(time(&mut plain));
-    }
-    least
-}
-
-fn time(name: &str, [proved, plain]: [f64; 2]) {
-    println!(
-        "{name}: proved {proved:.1} ns, plain {plain:.1} ns a call, ratio {:.2}",
-        proved / plain
-    );
-}
-
 fn main() {
-    assert_eq!(size_of::<Call>(), 24);
-    assert_eq!(size_of::<Answer>(), 32);
-
     let mut calls = 0;
     for seed in 1..=100 {
         calls += check_steps(|give| generator::random(seed, 2000, give));
@@ -410,46 +326,18 @@ fn main() {
     let lists: u64 = (1..=100).map(|seed| check_lists(seed, 2000)).sum();
     println!("run: {lists} lists alike, answers and records");
 
+    (1..=100).for_each(|seed| check_file(seed, 2000));
+    println!("file: 100 drill files alike, whole, cut short and with a bad number");
+
+    let pairs: u64 = (1..=20).map(|seed| check_equal(seed, 2000)).sum();
+    println!("equal: {pairs} pairs of records alike");
+
+    let changes: u64 = (1..=20).map(|seed| check_changed(seed, 2000)).sum();
+    println!("equal, sound: {changes} records with one word changed alike");
+
     let damaged: u64 = (1..=20).map(|seed| check_damaged(seed, 2000)).sum();
     println!(
         "damaged: {damaged} records in {} ways, each refused and kept",
         DAMAGES.len()
     );
-
-    let mut calls: Vec<[u32; 6]> = Vec::new();
-    generator::random(1, 100_000, &mut |_, call, _| calls.push(call));
-    let list = calls.as_flattened();
-    let mut ours = vec![0i64; list.len()];
-    let mut theirs = ours.clone();
-    let times = best(
-        calls.len(),
-        || {
-            let mut m = Monitor::default();
-            assert_eq!(run(&mut m, black_box(list), &mut ours), 0);
-            black_box(&m);
-        },
-        || {
-            let mut m = plain::Monitor::fresh();
-            assert_eq!(plain::run_list(&mut m, black_box(list), &mut theirs), 0);
-            black_box(&m);
-        },
-    );
-    assert_eq!(ours, theirs);
-    time("one list of 100000 calls", times);
-    let times = best(
-        calls.len(),
-        || {
-            let mut m = Monitor::default();
-            for &call in &calls {
-                black_box(step(&mut m, black_box(call)));
-            }
-        },
-        || {
-            let mut m = plain::Monitor::fresh();
-            for &call in &calls {
-                black_box(plain::step(&mut m, black_box(call)));
-            }
-        },
-    );
-    time("the same calls singly", times);
 }

@@ -1,0 +1,264 @@
+//! The wrong rules of `crates/rules/must-fail`. The feature `faults` plants
+//! them in the monitor, one on at a time; without it none is ever on.
+
+macro_rules! faults {
+    ($($name:ident,)*) => {
+        /// A wrong rule, named as its edit.
+        #[derive(Clone, Copy, Debug, PartialEq, Eq)]
+        pub enum Fault { $($name,)* }
+
+        impl Fault {
+            pub const ALL: &[Fault] = &[$(Fault::$name,)*];
+        }
+    };
+}
+
+faults! {
+    AlwaysRollsBack,
+    ClockGoesBack,
+    ClockMovedByUnknownKind,
+    ClockMovedByUnknownParty,
+    CommitIgnoresDeadline,
+    CommitIgnoresDoom,
+    CommitIgnoresOpenEnds,
+    DeadlineOnlyPast,
+    DisconnectDoomsNothing,
+    DoomLeavesNoMark,
+    EarlyFetchRemovesLink,
+    FailDoomsNothing,
+    FailedReturnDoomsNothing,
+    FallDoomsNothing,
+    FetchLeavesLink,
+    LinkNumbersReused,
+    NewEndSendsEarly,
+    NonOwnerCommits,
+    SuccessWithOpenEnds,
+    TransactionNumbersReused,
+    TurnWithoutEvent,
+}
+
+/// Whether the fault is on.
+#[cfg(not(feature = "faults"))]
+#[inline(always)]
+pub const fn is_on(_: Fault) -> bool {
+    false
+}
+
+#[cfg(feature = "faults")]
+pub use planted::*;
+
+#[cfg(feature = "faults")]
+mod planted {
+    use super::Fault;
+    use crate::history::Entry;
+    use crate::monitor::{Monitor, LAST_NUMBER};
+    use std::cell::Cell;
+
+    thread_local! {
+        static ON: Cell<Option<Fault>> = const { Cell::new(None) };
+    }
+
+    /// Whether the fault is on.
+    pub fn is_on(fault: Fault) -> bool {
+        ON.get() == Some(fault)
+    }
+
+    /// Does something with the fault on, or with none.
+    pub fn with<R>(fault: Option<Fault>, act: impl FnOnce() -> R) -> R {
+        let before = ON.replace(fault);
+        let result = act();
+        ON.set(before);
+        result
+    }
+
+    impl Fault {
+        /// The edit's name: `always_rolls_back`.
+        pub fn edit(self) -> String {
+            let mut name = String::new();
+            for c in format!("{self:?}").chars() {
+                if c.is_uppercase() && !name.is_empty() {
+                    name.push('_');
+                }
+                name.push(c.to_ascii_lowercase());
+            }
+            name
+        }
+
+        /// The name of its history in `crates/histories/proofs/Faults.antt`:
+        /// `alwaysRollsBack`.
+        pub fn history_name(self) -> String {
+            let name = format!("{self:?}");
+            name[..1].to_lowercase() + &name[1..]
+        }
+    }
+
+    /// Calls on a fresh monitor, in one lent list, so that soundness is asked
+    /// only before the first.
+    #[derive(Clone)]
+    pub struct Run {
+        pub monitor: Monitor,
+        pub entries: Vec<Entry>,
+    }
+
+    impl Run {
+        pub fn fresh() -> Self {
+            Run {
+                monitor: Monitor::fresh(),
+                entries: Vec::new(),
+            }
+        }
+
+        /// One call more. False where the record is no longer one on which this
+        /// implementation tells what the rule gives: sound, but for the last
+        /// link number, which `link_numbers_reused` does not raise.
+        pub fn call(&mut self, call: [u32; 6]) -> bool {
+            let answer = self.monitor.step_sound(call);
+            self.entries.push((call, answer));
+            let last_link = std::mem::replace(&mut self.monitor.last_link, LAST_NUMBER);
+            let sound = self.monitor.is_sound();
+            self.monitor.last_link = last_link;
+            sound
+        }
+    }
+
+    /// The kinds by their names in `crates/histories/proofs/Rows.antt`.
+    pub const KIND_NAMES: [(u32, &str); 19] = [
+        (1, "txOpen"),
+        (2, "txClose"),
+        (3, "txBegin"),
+        (4, "txCommit"),
+        (5, "txRollback"),
+        (6, "txInfo"),
+        (8, "txSetControl"),
+        (9, "txSetTimeout"),
+        (10, "tpadvertise"),
+        (12, "tpacall"),
+        (13, "tpconnect"),
+        (14, "dispatch"),
+        (15, "tpgetrply"),
+        (16, "tpcancel"),
+        (17, "tpsend"),
+        (18, "tprecv"),
+        (19, "tpdiscon"),
+        (20, "tpreturn"),
+        (21, "terminate"),
+    ];
+}
+
+#[cfg(all(test, feature = "faults"))]
+mod tests {
+    use super::*;
+    use crate::drill::read_calls;
+    use crate::history::{check, Broken, Entry};
+    use crate::monitor::{run_list, Monitor};
+    use std::fs::{read, read_dir, read_to_string};
+
+    const CRATES: &str = concat!(env!("CARGO_MANIFEST_DIR"), "/../crates");
+
+    /// The stored histories.
+    fn stored() -> String {
+        read_to_string(format!("{CRATES}/histories/proofs/Faults.antt")).unwrap()
+    }
+
+    /// The rows of a fault's history; none if it has no history.
+    fn rows(stored: &str, fault: Fault) -> Vec<Entry> {
+        let start = format!("\n{} =\n", fault.history_name());
+        let Some((_, rest)) = stored.split_once(&start) else {
+            return Vec::new();
+        };
+        rest.lines()
+            .map_while(|line| line.trim_start_matches([' ', '∷']).strip_prefix("row "))
+            .map(entry)
+            .collect()
+    }
+
+    fn entry(row: &str) -> Entry {
+        let words: Vec<&str> = row
+            .split([' ', '(', ')'])
+            .filter(|w| !w.is_empty())
+            .collect();
+        let number = |at: usize| -> u32 {
+            let named = KIND_NAMES.iter().find(|named| named.1 == words[at]);
+            named.map_or_else(|| words[at].parse().unwrap(), |named| named.0)
+        };
+        let code = match (words[6], i64::from(number(7))) {
+            ("pos", n) => n,
+            ("negsuc", n) => -1 - n,
+            other => panic!("a code: {other:?}"),
+        };
+        let told = |at: usize| i64::from(number(at));
+        assert_eq!(words.len(), 13, "{row}");
+        (
+            [0, 1, 2, 3, 4, 5].map(number),
+            [code, told(8), told(9), told(10), told(11), told(12)],
+        )
+    }
+
+    /// The calls answered in one lent list, with the fault on or with none.
+    fn answered(fault: Option<Fault>, calls: &[[u32; 6]]) -> Vec<Entry> {
+        let numbers = calls.concat();
+        let mut answers = vec![0; numbers.len()];
+        let code = with(fault, || {
+            run_list(&mut Monitor::fresh(), &numbers, &mut answers)
+        });
+        assert_eq!(code, 0);
+        let (answers, _) = answers.as_chunks();
+        calls.iter().copied().zip(answers.iter().copied()).collect()
+    }
+
+    /// Each edit of the rules is a fault here.
+    #[test]
+    fn faults_are_the_edits() {
+        let mut edits: Vec<String> = read_dir(format!("{CRATES}/rules/must-fail"))
+            .unwrap()
+            .map(|file| file.unwrap().file_name().into_string().unwrap())
+            .collect();
+        edits.sort();
+        let faults = Fault::ALL.iter().map(|fault| fault.edit() + ".edit");
+        assert_eq!(edits, faults.collect::<Vec<_>>());
+    }
+
+    /// Each stored history is what the fault answers, and breaks the rule that
+    /// the table names; the right answers to its calls differ and break none.
+    #[test]
+    fn stored_histories() {
+        let stored = stored();
+        for &fault in Fault::ALL {
+            let rows = rows(&stored, fault);
+            let name = fault.history_name();
+            assert_eq!(rows.is_empty(), fault == Fault::NonOwnerCommits, "{name}");
+            if rows.is_empty() {
+                continue;
+            }
+            let calls: Vec<[u32; 6]> = rows.iter().map(|row| row.0).collect();
+            assert_eq!(answered(Some(fault), &calls), rows, "{name}");
+            let right = answered(None, &calls);
+            assert_ne!(right, rows, "{name}");
+            assert_eq!(check(&right), None, "{name}");
+            let rule = match check(&rows) {
+                Some(Broken::Sender { .. }) => "sender",
+                Some(Broken::AtWork { .. }) => "alone",
+                Some(_) => "commit",
+                None => panic!("{name} breaks nothing"),
+            };
+            assert!(
+                stored.contains(&format!("breaks {rule} {name}\n")),
+                "{name}"
+            );
+        }
+    }
+
+    /// A server's commit: no history shows it, but the answer is another, also
+    /// in a stored listing.
+    #[test]
+    fn non_owner_commits() {
+        let file = read(format!("{CRATES}/drill_cases/data/case-02")).unwrap();
+        let calls = read_calls(&file).0;
+        let right = answered(None, &calls);
+        let wrong = answered(Some(Fault::NonOwnerCommits), &calls);
+        let at = (0..calls.len()).find(|&at| right[at] != wrong[at]).unwrap();
+        assert_eq!((at, right[at].0[2]), (90, 4));
+        assert_eq!((right[at].1[0], wrong[at].1[0]), (-5, 0));
+        assert_eq!(check(&wrong), None);
+    }
+}
