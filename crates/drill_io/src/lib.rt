@@ -1,8 +1,10 @@
 // A drill file from a descriptor, its answers in lines to standard output.
 
+ghost use mathlib.Core.Bool.{true};
 ghost use mathlib.Core.Path.{_≡_};
-ghost use Prim.Native.Nat.{_-_, _≤_};
-ghost use lib.ListN.{length, take, drop};
+ghost use Prim.Native.Nat.{_≤_, _<_};
+ghost use lib.ListN.{length};
+use libc::STDERR_FILENO;
 use libc::STDOUT_FILENO;
 use monitor::Store;
 
@@ -13,9 +15,9 @@ struct Waiting {
     failed: bool,
 }
 
-// Reads once, past the bytes that wait, unless the input has ended.
+// Reads once, past the bytes that wait, unless the input has ended. There is room for a byte, so a read that gives none has met the input's end.
 fn receive(fd: i32, input: &mut [u8], count: usize, ended: bool) -> Waiting
-    requires { ⌜ count ≤ length (now input) ⌝ }
+    requires { ⌜ count < length (now input) ⌝ }
     ensures { λ r. ⌜ r .count ≤ length (now (input .entry)) ⌝ }
 {
     if ended {
@@ -48,24 +50,6 @@ fn receive(fd: i32, input: &mut [u8], count: usize, ended: bool) -> Waiting
     }
 }
 
-// Moves the bytes from `used` up to `count` to the front, and tells how many they are.
-fn keep_rest(buffer: &mut [u8], used: usize, count: usize) -> usize
-    requires { ⌜ count ≤ length (now buffer) ⌝ }
-    ensures { λ r. ⌜ r ≡ count - used ⌝ }
-    ensures { λ r. ⌜ take r (now (buffer .exit)) ≡ take r (drop used (now (buffer .entry))) ⌝ }
-{
-    if count <= used {
-        return 0;
-    }
-    let rest = count - used;
-    let mut i = 0;
-    while i < rest {
-        buffer[i] = buffer[used + i];
-        i += 1;
-    }
-    rest
-}
-
 // Between two turns: the record, what waits, and whether to go on.
 struct State {
     store: Store,
@@ -74,16 +58,19 @@ struct State {
     more: bool,
 }
 
-// One turn: reads, runs the calls that are whole, writes their lines, keeps what is left.
+// One turn: reads, has the calls that are whole run and listed, and writes their lines. Where the file goes on there is room for the next read.
 fn turn(fd: i32, s: State, input: &mut [u8], answers: &mut [i64], output: &mut [u8]) -> State
-    requires { ⌜ s .count ≤ length (now input) ⌝ }
-    ensures { λ r. ⌜ r .count ≤ length (now (input .entry)) ⌝ }
+    requires { ⌜ s .count < length (now input) ⌝ }
+    requires { ⌜ 30 < length (now input) ⌝ }
+    requires { ⌜ 6 ≤ length (now answers) ⌝ }
+    ensures { λ r. ⌜ (r .more ≡ true → r .count < length (now (input .entry))) ⌝ }
 {
     let before = s.store;
     let waiting = receive(fd, &mut *input, s.count, s.ended);
     let count = waiting.count;
     let ended = waiting.ended;
     if waiting.failed {
+        io::write_all(STDERR_FILENO, b"drill: cannot read\n");
         return State {
             store: before,
             count: 0,
@@ -91,20 +78,33 @@ fn turn(fd: i32, s: State, input: &mut [u8], answers: &mut [i64], output: &mut [
             more: false,
         };
     }
-    let listed = listing::list_piece(before, &input[..count], ended, &mut *answers, &mut *output);
-    let written = listed.written;
-    let used = listed.used;
-    let code = listed.code;
-    let after = listed.store;
+    let turned = listing::list_turn(
+        before,
+        &mut *input,
+        count,
+        ended,
+        &mut *answers,
+        &mut *output,
+    );
+    let written = turned.written;
+    let kept = turned.kept;
+    let over = turned.over;
+    let after = turned.store;
     let ok = io::write_all(STDOUT_FILENO, &output[..written]);
-    let kept = keep_rest(&mut *input, used, count);
-    let done = ended & (kept == 0);
-    let more = ok & (code == 0) & !done;
+    if !ok {
+        io::write_all(STDERR_FILENO, b"drill: cannot write\n");
+        return State {
+            store: after,
+            count: kept,
+            ended,
+            more: false,
+        };
+    }
     State {
         store: after,
         count: kept,
         ended,
-        more,
+        more: !over,
     }
 }
 

@@ -16,6 +16,11 @@ use Rattle.listing.specs.Text.{linesOf, refusalLine}
 abbrev pub textOf : Passed → List ℕ
 textOf p = linesOf (p .calls) (p .places) ++ refusalLine (p .code)
 
+-- the text of pieces, one after the other
+unfoldable pub textsOf : List Passed → List ℕ
+textsOf [] = []
+textsOf (p ∷ ps) = textOf p ++ textsOf ps
+
 -- What a piece gives: the record afterwards, how many bytes of the input its calls took, how many bytes of text they made, the code, and the two lent
 -- lists afterwards.
 pub record Shown : Type 0 where

@@ -10,7 +10,7 @@ use native.Mathlib.Omega.{arith}
 use borrow.Author.Tests.{eqb-true, eqb-false, eq-eqb, le-leb}
 use lib.Dec.{eqb, leb}
 use lib.IntN.{ℤ, pos}
-use lib.ListN.{length, drop, getD, length-drop, List·getD-append}
+use lib.ListN.{length, drop, getD, length-append, length-drop, List·getD-append}
 use lib.Seq.{take-at, drop-append-le}
 use Rattle.number.proofs.Reading.{below-or-not}
 use Rattle.rules.specs.Choice.{pick}
@@ -25,7 +25,7 @@ use Rattle.rules.proofs.Logic.{pick-true, pick-false, byTest, test, not-both}
 use Rattle.monitor.specs.File.{CallReading, called, nothing, broken, readCall, Calls, noCalls, withCall, callsFrom, fileCalls, codeAt, Passed, passed, afterCalls, pieceRun, pieceOf, fileOf}
 use Rattle.monitor.specs.View.{view}
 use Rattle.monitor.specs.Pieces.{saidBy, leftBy, isRefused, isOver, thenTurns, lastTurns, turnsOf, joined, inFront, together, piecesOf, onto}
-use Rattle.monitor.proofs.Calls.{call-none, call-after, call-within, calls-one, calls-nothing, calls-broken}
+use Rattle.monitor.proofs.Calls.{call-none, call-after, call-within, calls-one, calls-nothing, calls-broken, calls-few}
 use Rattle.monitor.proofs.Laws.{links-long, parties-long}
 use Rattle.monitor.proofs.Prefixes.{call-extends, call-shifts, code-shifts, calls-all, calls-split, calls-long, calls-end, call-breaks, nothing-none}
 
@@ -333,6 +333,18 @@ unfolding pieceOf run w
 said-long m bytes last out =
     byTest (λ (p : Passed). length (saidBy p) ≡ p .calls * 6) {b = sound m} {x = pieceRun m bytes last out} {y = passed m unsound 0 0 out}
     (λ _. ap length (said m bytes [] last out) ∙ answers-long (w m bytes [] last out .count) m (w m bytes [] last out .numbers))
+    (λ _. refl)
+
+-- and as many places as it was lent
+pub places-long : (m : Monitor) (bytes : List ℕ) (last : Bool) (out : List ℤ) → length (pieceOf m bytes last out .places) ≡ length out
+unfolding pieceOf
+places-long m bytes last out =
+    let w : Calls = callsFrom (length out / 6) bytes 0 in
+    let few = calls-few (length out / 6) bytes 0 in
+    byTest (λ (p : Passed). length (p .places) ≡ length out) {b = sound m} {x = pieceRun m bytes last out} {y = passed m unsound 0 0 out}
+    (λ _.
+    length-append (answersOf (w .count) m (w .numbers)) (drop (w .count * 6) out)
+    ∙ omega (arith, answers-long (w .count) m (w .numbers), length-drop (w .count * 6) out))
     (λ _. refl)
 
 -- ---- room for the next chunk

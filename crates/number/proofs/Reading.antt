@@ -196,7 +196,7 @@ module _ (most bits : ℕ) (input : List ℕ) (place : ℕ) where
         go : Told most bits place (drop place input) (number value next) → next ≤ length input
         go (accepted v n small end some few) = omega (arith, length-drop place input)
 
-drop-take : (place count : ℕ) (input : List ℕ) → drop place (take (place + count) input) ≡ take count (drop place input)
+pub drop-take : (place count : ℕ) (input : List ℕ) → drop place (take (place + count) input) ≡ take count (drop place input)
 drop-take zero count input = ap (λ (k : ℕ). take k input) (zero-add count)
 drop-take (suc place) count [] = ap (drop (suc place)) (take-nil (suc place + count)) ∙ sym (take-nil count)
 drop-take (suc place) count (byte ∷ input) =

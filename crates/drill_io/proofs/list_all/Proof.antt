@@ -1,13 +1,15 @@
 -- `drill_io::list_all` meets its contract.
 -- Assumes nothing.
-use Prim.Native.Nat.{_-_, _≤_}
+use Prim.Native.Nat.{_≤_, _<_}
+use native.Mathlib.Omega.{arith}
 use borrow.Author.Needs.{needs}
 use lib.ListN.{length}
+use Rattle.rules.proofs.Logic.{not-false}
 use Rattle.drill_io.proofs.list_all.Statement.{statement}
 use Rattle.drill_io.proofs.list_all.Tie as tie
 
 abbrev Inv-loop : tie.InvT-loop
-Inv-loop fd input₀ answers₀ output₀ s₀ turns₀ input answers output s turns = s .count ≤ length input
+Inv-loop fd input₀ answers₀ output₀ s₀ turns₀ input answers output s turns = (s .count < length input) × (30 < length input) × (6 ≤ length answers)
 
 abbrev μ-loop : tie.MeasureT-loop
 μ-loop fd input₀ answers₀ output₀ s₀ turns₀ input answers output s turns = turns
@@ -37,7 +39,7 @@ loop-holds : tie.Need-loop-holds Inv-loop μ-loop
 loop-holds c = search needs
 
 turn-requires : tie.Need-turn-requires Inv-loop μ-loop
-turn-requires c κs = search needs
+turn-requires c κs = let i = c .before .before .before .before .loop .inv in (i .0, (i .1, i .2))
 
 returns : tie.Need-returns Inv-loop μ-loop
 returns c = search needs
@@ -49,7 +51,11 @@ loop-less : tie.Need-loop-less Inv-loop μ-loop
 loop-less c = search needs
 
 loop-again : tie.Need-loop-again Inv-loop μ-loop
-loop-again c = search needs
+loop-again c =
+    let t = c .before .before .before .before .before .before .before .turn in
+    let i = c .before .before .before .before .before .before .before .before .before .before .before .before .loop .inv in
+    let on = t .ensures (not-false _ (c .if1 .left)) in
+    (omega (arith, on, t .kept .1 .1 .0), omega (arith, i .1, t .kept .1 .1 .0), omega (arith, i .2, t .kept .1 .1 .1 .0))
 
 returns-2 : tie.Need-returns-2 Inv-loop μ-loop
 returns-2 c = search needs

@@ -1,16 +1,24 @@
 -- `drill_io::turn` meets its contract.
 -- Assumes nothing.
-use Prim.Native.Nat.{_-_}
-use mathlib.Core.Path.{sym}
+use Prim.Native.Nat.{_≤_, _<_}
+use mathlib.Core.Path.{refl, sym}
 use native.Mathlib.Omega.{arith}
 use borrow.Author.Needs.{needs}
+use lib.ListN.{length}
 use lib.Seq.{length-take-le}
-use Rattle.listing.proofs.Pieces.{written-fits}
+use Rattle.rules.proofs.Logic.{not-both, not-true}
+use Rattle.listing.proofs.Turns.{turn-fits, turn-leaves-room}
 use Rattle.drill_io.proofs.turn.Statement.{statement}
 use Rattle.drill_io.proofs.turn.Tie as tie
 
 receive-requires : tie.Need-receive-requires
 receive-requires c κs = search needs
+
+slice-aggregate-write-all : tie.Need-slice-aggregate-write-all
+slice-aggregate-write-all c = search needs
+
+write-all-requires : tie.Need-write-all-requires
+write-all-requires c κs = search needs
 
 same-length : tie.Need-same-length
 same-length c = search needs
@@ -18,26 +26,25 @@ same-length c = search needs
 returns : tie.Need-returns
 returns c = search needs
 
-slice-reshare-prefix-list-piece : tie.Need-slice-reshare-prefix-list-piece
-slice-reshare-prefix-list-piece c = search needs
-
-slice-aggregate-list-piece : tie.Need-slice-aggregate-list-piece
-slice-aggregate-list-piece c = let r = c .before .before .before .before .receive in sym (length-take-le (r .result .count) (r .last .1 .0) (omega (arith, r .ensures, r .kept .1 .0)))
-
-list-piece-requires : tie.Need-list-piece-requires
-list-piece-requires c κs = search needs
+list-turn-requires : tie.Need-list-turn-requires
+list-turn-requires c κs = search needs
 
 slice-reshare-prefix-write-all : tie.Need-slice-reshare-prefix-write-all
-slice-reshare-prefix-write-all c = let l = c .before .before .before .before .before .list-piece in omega (arith, written-fits _ _ _ _ _ _ (l .ensures), l .kept .1 .1 .1 .1 .0)
+slice-reshare-prefix-write-all c = let l = c .before .before .before .before .before .before .list-turn in omega (arith, turn-fits _ _ _ _ _ _ _ (l .ensures), l .kept .1 .1 .1 .1 .1 .0)
 
-slice-aggregate-write-all : tie.Need-slice-aggregate-write-all
-slice-aggregate-write-all c = let l = c .before .before .before .before .before .before .list-piece in sym (length-take-le (l .result .written) (l .last .1 .1 .1 .1 .0) (omega (arith, written-fits _ _ _ _ _ _ (l .ensures), l .kept .1 .1 .1 .1 .0)))
+slice-aggregate-write-all-2 : tie.Need-slice-aggregate-write-all-2
+slice-aggregate-write-all-2 c =
+    let l = c .before .before .before .before .before .before .before .list-turn in
+    sym (length-take-le (l .result .written) (l .last .1 .1 .1 .1 .1 .0) (omega (arith, turn-fits _ _ _ _ _ _ _ (l .ensures), l .kept .1 .1 .1 .1 .1 .0)))
 
-write-all-requires : tie.Need-write-all-requires
-write-all-requires c κs = search needs
+write-all-requires-2 : tie.Need-write-all-requires-2
+write-all-requires-2 c κs = search needs
 
-keep-rest-requires : tie.Need-keep-rest-requires
-keep-rest-requires c κs = search needs
+slice-aggregate-write-all-3 : tie.Need-slice-aggregate-write-all-3
+slice-aggregate-write-all-3 c = search needs
+
+write-all-requires-3 : tie.Need-write-all-requires-3
+write-all-requires-3 c κs = search needs
 
 same-length-2 : tie.Need-same-length-2
 same-length-2 c = search needs
@@ -49,23 +56,46 @@ same-length-4 : tie.Need-same-length-4
 same-length-4 c = search needs
 
 returns-2 : tie.Need-returns-2
-returns-2 c = search needs
+returns-2 c e = not-both e refl
+
+same-length-5 : tie.Need-same-length-5
+same-length-5 c = search needs
+
+same-length-6 : tie.Need-same-length-6
+same-length-6 c = search needs
+
+same-length-7 : tie.Need-same-length-7
+same-length-7 c = search needs
+
+returns-3 : tie.Need-returns-3
+returns-3 c e =
+    let s = c .before .before .before .before .before .before .before .before .before .before .before .before .before .before .before .before .before .before .before .before .before in
+    let r = c .before .before .before .before .before .before .before .before .before .before .before .before .before .before .before .before .receive in
+    let l = c .before .before .before .before .before .before .before .before .before .list-turn in
+    let places : 6 ≤ length (s .args .answers .now) = omega arith in
+    let large : 30 < length (r .last .1 .0) = omega (arith, r .kept .1 .0) in
+    omega (arith, turn-leaves-room _ _ _ _ _ _ places large _ (l .ensures) (not-true _ e), r .kept .1 .0)
 
 pub turn-spec : {M : Type 1} → statement M
 turn-spec =
     tie.close
     (tie.spec
     receive-requires
-    same-length
-    returns
-    slice-reshare-prefix-list-piece
-    slice-aggregate-list-piece
-    list-piece-requires
-    slice-reshare-prefix-write-all
     slice-aggregate-write-all
     write-all-requires
-    keep-rest-requires
+    same-length
+    returns
+    list-turn-requires
+    slice-reshare-prefix-write-all
+    slice-aggregate-write-all-2
+    write-all-requires-2
+    slice-aggregate-write-all-3
+    write-all-requires-3
     same-length-2
     same-length-3
     same-length-4
-    returns-2)
+    returns-2
+    same-length-5
+    same-length-6
+    same-length-7
+    returns-3)

@@ -1,12 +1,12 @@
--- `drill_io::keep_rest` meets its contract.
+-- `listing::turn::keep_rest` meets its contract.
 -- Assumes nothing.
 use Prim.Native.Nat.{_-_}
 use mathlib.Core.Path.{refl}
 use native.Mathlib.Omega.{arith}
 use borrow.Author.Needs.{needs}
-use Rattle.drill_io.proofs.Moves.{Moves, moves-none, moves-one, moves-all}
-use Rattle.drill_io.proofs.keep_rest.Statement.{statement}
-use Rattle.drill_io.proofs.keep_rest.Tie as tie
+use Rattle.listing.proofs.Moves.{Moves, moves-none, moves-one, moves-all, moves-nothing}
+use Rattle.listing.proofs.turn.keep_rest.Statement.{statement}
+use Rattle.listing.proofs.turn.keep_rest.Tie as tie
 
 abbrev Inv-loop : tie.InvT-loop
 Inv-loop buffer₀ used count rest i₀ buffer i = Moves buffer₀ used rest buffer i
@@ -15,7 +15,7 @@ abbrev μ-loop : tie.MeasureT-loop
 μ-loop buffer₀ used count rest i₀ buffer i = rest - i
 
 returns : tie.Need-returns Inv-loop μ-loop
-returns c = (omega arith, refl)
+returns c = let a = c .before .args in (omega arith, moves-nothing (a .buffer .now) (a .used) (a .count) (omega arith) (omega arith))
 
 sub-rest : tie.Need-sub-rest Inv-loop μ-loop
 sub-rest c = search needs
@@ -45,7 +45,7 @@ same-length : tie.Need-same-length Inv-loop μ-loop
 same-length c = c .before .loop .inv .long
 
 returns-2 : tie.Need-returns-2 Inv-loop μ-loop
-returns-2 c = (refl, moves-all (c .before .loop .inv) (c .loop-test .left))
+returns-2 c = (refl, moves-all (c .before .loop .inv) (c .loop-test .left) (c .before .before .before .args .count) (omega arith))
 
 pub keep-rest-spec : {M : Type 1} → statement M
 keep-rest-spec =
