@@ -387,7 +387,7 @@ impl Monitor {
     /// Dooms a transaction if it is live.
     fn doom(&mut self, transaction: u32) {
         if let Some(owner) = self.owner(transaction) {
-            self.parties[owner].doomed = !is_on(Fault::DoomLeavesNoMark);
+            self.parties[owner].doomed = !is_on(Fault::RollbackOnlyLeavesNoMark);
         }
     }
 
@@ -495,8 +495,8 @@ impl Monitor {
         // The served link is working, so it is still there, but may have moved.
         let i = self.find(served).expect("a working link stays");
         let dooms = outcome != SUCCESS
-            && !is_on(Fault::FailedReturnDoomsNothing)
-            && !(outcome == FAIL && is_on(Fault::FailDoomsNothing));
+            && !is_on(Fault::FailedReturnMarksNothing)
+            && !(outcome == FAIL && is_on(Fault::FailMarksNothing));
         if dooms {
             self.doom(self.links[i].transaction);
         }
@@ -541,7 +541,7 @@ impl Monitor {
             ask(self.owner(t) == Some(p), -5)?;
         }
         let good = !commit
-            || !(self.parties[p].doomed && !is_on(Fault::CommitIgnoresDoom)
+            || !(self.parties[p].doomed && !is_on(Fault::CommitIgnoresRollbackOnly)
                 || self.is_expired(t) && !is_on(Fault::CommitIgnoresDeadline)
                 || self
                     .links()
@@ -801,7 +801,7 @@ impl Monitor {
 
     fn disconnect(&mut self, p: usize, a: u32) -> Decision {
         let i = self.open_end(p, Kind::Conversation, a)?;
-        if is_on(Fault::DisconnectDoomsNothing) {
+        if is_on(Fault::DisconnectMarksNothing) {
             self.hang_up(i);
         } else {
             self.disconnect_link(i);
@@ -840,7 +840,7 @@ impl Monitor {
     fn fall(&mut self, p: usize) -> Decision {
         let serving = self.parties[p].served != 0;
         if serving {
-            let left_with = if is_on(Fault::FallDoomsNothing) {
+            let left_with = if is_on(Fault::DeathMarksNothing) {
                 SUCCESS
             } else {
                 ERROR

@@ -2,7 +2,7 @@
 -- Assumes nothing.
 use mathlib.Core.List.{List, [], _∷_}
 use lib.IntN.{pos, negsuc}
-use Rattle.histories.proofs.Rows.{Row, row, placed, coded, told, asked, without, unanswered, valueField, eventField, partyField, kindField, aField, sender, commit, alone, Spoilt, breaks, txOpen, txBegin, txCommit, tpadvertise, tpconnect, dispatch, tpcancel, tpsend, tprecv, tpdiscon, tpreturn, terminate}
+use Rattle.histories.proofs.Rows.{Row, row, placed, coded, showing, asked, without, unanswered, valueField, eventField, partyField, kindField, aField, sender, commit, alone, Spoilt, breaks, txOpen, txBegin, txCommit, tpadvertise, tpconnect, dispatch, tpcancel, tpsend, tprecv, tpdiscon, tpreturn, terminate}
 
 -- a conversation with four turns in a transaction that is committed
 abbrev pub turns : List Row
@@ -28,7 +28,7 @@ turns =
     ∷ row 9 0 txCommit 0 0 0 (pos 0) 0 0 0 0 0
     ∷ []
 
--- the new end sends too early, is refused, and sends after event 32; the server is cut off by a disconnect
+-- the new end sends too early, is refused, and sends after event 32; the server is disconnected
 abbrev pub early : List Row
 early =
     row 1 0 txOpen 0 0 0 (pos 0) 0 0 0 0 0
@@ -162,27 +162,27 @@ real = turns ∷ early ∷ serverFirst ∷ apart ∷ backAndForth ∷ sideBySide
 
 abbrev pub spoilt : List Spoilt
 spoilt =
-    -- the server receives the hand-over with code 0 and no event, and sends
-    breaks sender (coded 9 (pos 0) (told 9 eventField 0 turns))
+    -- the server receives the grant with code 0 and no event, and sends
+    breaks sender (coded 9 (pos 0) (showing 9 eventField 0 turns))
     -- with code 0 and the event
     ∷ breaks sender (coded 9 (pos 0) turns)
     -- with code 29 and another event
-    ∷ breaks sender (told 9 eventField 8 turns)
+    ∷ breaks sender (showing 9 eventField 8 turns)
     -- in the answer to a send
     ∷ breaks sender (asked 9 kindField tpsend turns)
     -- the originator receives it in the server's place
     ∷ breaks sender (asked 9 partyField 0 turns)
-    -- the originator sends again without having received the hand-over
+    -- the originator sends again without having received the grant
     ∷ breaks sender (without 13 turns)
-    -- the server sends again without having received the second hand-over: the first counts no more
+    -- the server sends again without having received the second grant: the first counts no more
     ∷ breaks sender (without 11 backAndForth)
-    -- the server sends before it receives the hand-over
+    -- the server sends before it receives the grant
     ∷ breaks sender (coded 7 (pos 0) early)
     -- the originator sends where the server was to send first
     ∷ breaks sender (coded 5 (pos 0) serverFirst)
-    -- a server sends early, while the other conversation has had its hand-over
+    -- a server sends early, while the other conversation has had its grant
     ∷ breaks sender (coded 14 (pos 0) apart)
-    -- the hand-over comes on the other link
+    -- the grant comes on the other link
     ∷ breaks sender (asked 15 aField 2 apart)
     -- rolled back, though nothing speaks against it
     ∷ breaks commit (coded 18 (negsuc 1) turns)
@@ -214,9 +214,9 @@ harmless =
     -- the originator learns by a 17 how the conversation ended
     asked 17 kindField tpsend turns
     -- it learns event 2, though the service returned success
-    ∷ told 17 eventField 2 turns
+    ∷ showing 17 eventField 2 turns
     -- event 4
-    ∷ told 17 eventField 4 turns
+    ∷ showing 17 eventField 4 turns
     -- a commit that is refused by question 19 is none
     ∷ coded 18 (pos 19) turns
     -- the dispatch is refused, so that nobody is at work

@@ -3,7 +3,7 @@
 -- Assumes nothing.
 use mathlib.Core.List.{List, [], _∷_}
 use lib.IntN.{pos, negsuc}
-use Rattle.histories.proofs.Rows.{Row, row, coded, told, commit, Spoilt, breaks, valueField, txOpen, txBegin, txCommit, tpadvertise, tpconnect, dispatch, tpsend, tpdiscon, terminate}
+use Rattle.histories.proofs.Rows.{Row, row, coded, showing, commit, Spoilt, breaks, valueField, txOpen, txBegin, txCommit, tpadvertise, tpconnect, dispatch, tpsend, tpdiscon, terminate}
 
 -- the caller disconnects, and then the service dies: the booking is rolled back, and the next one is not touched
 abbrev pub diesAfterDisconnect : List Row
@@ -77,5 +77,5 @@ spoilt =
 abbrev pub harmless : List (List Row)
 harmless =
     -- a death that failed nothing, of which the caller learned: committed
-    coded 10 (pos 0) (told 7 valueField 0 learnsOfDeath)
+    coded 10 (pos 0) (showing 7 valueField 0 learnsOfDeath)
     ∷ []

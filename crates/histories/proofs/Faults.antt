@@ -15,9 +15,9 @@ alwaysRollsBack =
     ∷ row 0 0 txCommit 0 0 0 (negsuc 1) 0 0 0 0 0
     ∷ []
 
--- a commit does not ask whether the transaction is doomed: committed after its service died
-abbrev pub commitIgnoresDoom : List Row
-commitIgnoresDoom =
+-- a commit does not ask whether the transaction is rollback-only: committed after its service died
+abbrev pub commitIgnoresRollbackOnly : List Row
+commitIgnoresRollbackOnly =
     row 0 0 txOpen 0 0 0 (pos 0) 0 0 0 0 0
     ∷ row 0 1 txOpen 0 0 0 (pos 0) 0 0 0 0 0
     ∷ row 0 1 tpadvertise 7 0 0 (pos 0) 1 0 0 0 0
@@ -87,10 +87,10 @@ clockMovedByUnknownParty =
     ∷ row 0 0 txCommit 0 0 0 (negsuc 1) 0 0 0 0 0
     ∷ []
 
--- ---- what dooms
--- a doomed transaction's owner has no mark: committed after its conversation failed
-abbrev pub doomLeavesNoMark : List Row
-doomLeavesNoMark =
+-- ---- what makes a transaction rollback-only
+-- a rollback-only transaction's owner has no mark: committed after its conversation failed
+abbrev pub rollbackOnlyLeavesNoMark : List Row
+rollbackOnlyLeavesNoMark =
     row 0 0 txOpen 0 0 0 (pos 0) 0 0 0 0 0
     ∷ row 0 1 txOpen 0 0 0 (pos 0) 0 0 0 0 0
     ∷ row 0 1 tpadvertise 7 0 0 (pos 0) 1 0 0 0 0
@@ -102,9 +102,9 @@ doomLeavesNoMark =
     ∷ row 0 0 txCommit 0 0 0 (pos 0) 0 0 0 0 0
     ∷ []
 
--- outcome 4 does not doom: committed after its request failed
-abbrev pub failDoomsNothing : List Row
-failDoomsNothing =
+-- outcome 4 leaves T as it was: committed after its request failed
+abbrev pub failMarksNothing : List Row
+failMarksNothing =
     row 0 0 txOpen 0 0 0 (pos 0) 0 0 0 0 0
     ∷ row 0 1 txOpen 0 0 0 (pos 0) 0 0 0 0 0
     ∷ row 0 1 tpadvertise 7 0 0 (pos 0) 1 0 0 0 0
@@ -116,9 +116,9 @@ failDoomsNothing =
     ∷ row 0 0 txCommit 0 0 0 (pos 0) 0 0 0 0 0
     ∷ []
 
--- a return dooms by no outcome: committed after a return out of turn, outcome 2
-abbrev pub failedReturnDoomsNothing : List Row
-failedReturnDoomsNothing =
+-- a return makes T rollback-only by no outcome: committed after a return out of turn, outcome 2
+abbrev pub failedReturnMarksNothing : List Row
+failedReturnMarksNothing =
     row 0 0 txOpen 0 0 0 (pos 0) 0 0 0 0 0
     ∷ row 0 1 txOpen 0 0 0 (pos 0) 0 0 0 0 0
     ∷ row 0 1 tpadvertise 7 0 0 (pos 0) 1 0 0 0 0
@@ -131,8 +131,8 @@ failedReturnDoomsNothing =
     ∷ []
 
 -- a party that falls leaves its served link as by success: committed after the fall
-abbrev pub fallDoomsNothing : List Row
-fallDoomsNothing =
+abbrev pub deathMarksNothing : List Row
+deathMarksNothing =
     row 0 0 txOpen 0 0 0 (pos 0) 0 0 0 0 0
     ∷ row 0 1 txOpen 0 0 0 (pos 0) 0 0 0 0 0
     ∷ row 0 1 tpadvertise 7 0 0 (pos 0) 1 0 0 0 0
@@ -144,9 +144,9 @@ fallDoomsNothing =
     ∷ row 0 0 txCommit 0 0 0 (pos 0) 0 0 0 0 0
     ∷ []
 
--- a disconnect does not doom: committed after it
-abbrev pub disconnectDoomsNothing : List Row
-disconnectDoomsNothing =
+-- a disconnect leaves T as it was: committed after it
+abbrev pub disconnectMarksNothing : List Row
+disconnectMarksNothing =
     row 0 0 txOpen 0 0 0 (pos 0) 0 0 0 0 0
     ∷ row 0 0 tpadvertise 7 0 0 (pos 0) 1 0 0 0 0
     ∷ row 0 0 txBegin 0 0 0 (pos 0) 0 0 0 0 1
@@ -219,7 +219,7 @@ transactionNumbersReused =
     ∷ []
 
 -- ---- turns
--- either end may send while the turn is handed over: the new end sends before event 32
+-- either end may send while the grant is under way: the new end sends before event 32
 abbrev pub newEndSendsEarly : List Row
 newEndSendsEarly =
     row 0 1 txOpen 0 0 0 (pos 0) 0 0 0 0 0
@@ -230,7 +230,7 @@ newEndSendsEarly =
     ∷ row 0 1 tpsend 1 0 0 (pos 0) 0 0 0 0 0
     ∷ []
 
--- the hand-over is received with code 0 and event 0: the new end sends without event 32
+-- the grant is received with code 0 and event 0: the new end sends without event 32
 abbrev pub turnWithoutEvent : List Row
 turnWithoutEvent =
     row 0 1 txOpen 0 0 0 (pos 0) 0 0 0 0 0
@@ -246,18 +246,18 @@ turnWithoutEvent =
 abbrev pub faulty : List Spoilt
 faulty =
     breaks commit alwaysRollsBack
-    ∷ breaks commit commitIgnoresDoom
+    ∷ breaks commit commitIgnoresRollbackOnly
     ∷ breaks commit commitIgnoresDeadline
     ∷ breaks commit commitIgnoresOpenEnds
     ∷ breaks commit deadlineOnlyPast
     ∷ breaks commit clockGoesBack
     ∷ breaks commit clockMovedByUnknownKind
     ∷ breaks commit clockMovedByUnknownParty
-    ∷ breaks commit doomLeavesNoMark
-    ∷ breaks commit failDoomsNothing
-    ∷ breaks commit failedReturnDoomsNothing
-    ∷ breaks commit fallDoomsNothing
-    ∷ breaks commit disconnectDoomsNothing
+    ∷ breaks commit rollbackOnlyLeavesNoMark
+    ∷ breaks commit failMarksNothing
+    ∷ breaks commit failedReturnMarksNothing
+    ∷ breaks commit deathMarksNothing
+    ∷ breaks commit disconnectMarksNothing
     ∷ breaks commit successWithOpenEnds
     ∷ breaks commit earlyFetchRemovesLink
     ∷ breaks commit fetchLeavesLink

@@ -48,8 +48,8 @@ placed n field z rs = atRow (λ r. record { numbers = r .numbers; places = set (
 abbrev pub coded : ℕ → ℤ → List Row → List Row
 coded n code rs = placed n 0 code rs
 
-abbrev pub told : ℕ → ℕ → ℕ → List Row → List Row
-told n field v rs = placed n field (pos v) rs
+abbrev pub showing : ℕ → ℕ → ℕ → List Row → List Row
+showing n field v rs = placed n field (pos v) rs
 
 -- its call has another number at a place
 abbrev pub asked : ℕ → ℕ → ℕ → List Row → List Row

@@ -2,7 +2,7 @@
 -- Assumes nothing.
 use mathlib.Core.List.{List, [], _∷_}
 use lib.IntN.{pos, negsuc}
-use Rattle.histories.proofs.Rows.{Row, row, coded, told, asked, without, valueField, txField, partyField, bField, commit, alone, Spoilt, breaks, txOpen, txBegin, txCommit, txRollback, tpadvertise, tpacall, dispatch, tpgetrply, tpcancel, tpreturn, terminate}
+use Rattle.histories.proofs.Rows.{Row, row, coded, showing, asked, without, valueField, txField, partyField, bField, commit, alone, Spoilt, breaks, txOpen, txBegin, txCommit, txRollback, tpadvertise, tpacall, dispatch, tpgetrply, tpcancel, tpreturn, terminate}
 
 -- a service calls another in the same transaction, and all end well; the servers commits are refused
 abbrev pub nested : List Row
@@ -66,8 +66,8 @@ negligent =
     ∷ []
 
 -- a server falls; the owner falls in its next transaction, and begins anew
-abbrev pub falling : List Row
-falling =
+abbrev pub dying : List Row
+dying =
     row 1 0 txOpen 0 0 0 (pos 0) 0 0 0 0 0
     ∷ row 1 1 txOpen 0 0 0 (pos 0) 0 0 0 0 0
     ∷ row 1 1 tpadvertise 7 0 0 (pos 0) 1 0 0 0 0
@@ -174,14 +174,14 @@ stillAtWork =
 
 -- ---- the tables
 abbrev pub real : List (List Row)
-real = nested ∷ failing ∷ negligent ∷ falling ∷ unfinished ∷ outside ∷ refusedReturn ∷ stillAtWork ∷ []
+real = nested ∷ failing ∷ negligent ∷ dying ∷ unfinished ∷ outside ∷ refusedReturn ∷ stillAtWork ∷ []
 
 abbrev pub spoilt : List Spoilt
 spoilt =
     -- committed, though the inner service failed
-    breaks commit (told 12 valueField 4 nested)
+    breaks commit (showing 12 valueField 4 nested)
     -- committed, though the inner service ended in error
-    ∷ breaks commit (told 12 valueField 2 nested)
+    ∷ breaks commit (showing 12 valueField 2 nested)
     -- committed, though nobody fetched the inner reply
     ∷ breaks commit (without 13 nested)
     -- committed after a failed service, whose reply was fetched
@@ -189,15 +189,15 @@ spoilt =
     -- rolled back for what failed in the transaction before
     ∷ breaks commit (coded 14 (negsuc 1) failing)
     -- rolled back, though the service succeeded
-    ∷ breaks commit (told 6 valueField 8 failing)
+    ∷ breaks commit (showing 6 valueField 8 failing)
     -- committed after a return that left a request open
     ∷ breaks commit (coded 13 (pos 0) negligent)
     -- committed after the fall of a server
-    ∷ breaks commit (coded 8 (pos 0) falling)
+    ∷ breaks commit (coded 8 (pos 0) dying)
     -- rolled back, though the fall ended no service
-    ∷ breaks commit (told 6 valueField 0 falling)
+    ∷ breaks commit (showing 6 valueField 0 dying)
     -- rolled back for the work that the owner left behind as it fell
-    ∷ breaks commit (coded 18 (negsuc 1) falling)
+    ∷ breaks commit (coded 18 (negsuc 1) dying)
     -- committed with a request that nobody has taken
     ∷ breaks commit (coded 5 (pos 0) unfinished)
     -- committed with a reply that was not fetched
@@ -222,11 +222,11 @@ harmless =
     -- a commit of a server is answered 0: it does not own the transaction
     coded 8 (pos 0) nested
     -- the first answer in a transaction is to a dispatch: it has no owner
-    ∷ told 7 txField 9 nested
+    ∷ showing 7 txField 9 nested
     -- the owner itself is at work
     ∷ asked 7 partyField 0 nested
     -- a commit that is not to be is answered by some other number
     ∷ coded 8 (pos 22) failing
     -- a fall without a value ends the service, and not badly
-    ∷ coded 8 (pos 0) (told 6 valueField 0 falling)
+    ∷ coded 8 (pos 0) (showing 6 valueField 0 dying)
     ∷ []

@@ -6,7 +6,7 @@ use mathlib.Core.List.{List, [], _++_}
 use mathlib.Core.Bool.{Bool, true, not, _&&_}
 use Prim.Native.Nat.{ℕ, _<_}
 use lib.ListN.{length, getD}
-use Rattle.rules.specs.History.{some, ofKind, by, answeredBy, withValue, withEvent, past21, accepted, linkOn, on, isSend, differentEnds, givenSendOnly, sendsApart, endsIn, upToStart, startedBy, isOwner, latestTx, isOwnersCommit, committed, flag2, makes, isLinkOf, serves, failedEnd, disconnect, greatestClock, timeoutOf, timeoutAtStart, due, deadlinePassed, finishes, unfinished, reasonAgainst, othersAtWork, senderRule, commitRule, aloneRule, holds, readCall, readAnswer, thenCalls, thenList}
+use Rattle.rules.specs.History.{some, ofKind, by, answeredBy, withValue, withEvent, past21, accepted, linkOn, on, isSend, differentEnds, givenSendOnly, sendsApart, endsIn, upToStart, startedBy, shownOwner, latestTx, isOwnersCommit, committed, flag2, makes, isLinkOf, serves, failedEnd, disconnect, greatestClock, shownTimeout, timeoutAtStart, due, deadlinePassed, finishes, unfinished, reasonAgainst, othersAtWork, senderRule, commitRule, aloneRule, holds, firstCall, firstAnswer, thenCalls, thenList}
 use Rattle.rules.proofs.Tables.{every, entry}
 use Rattle.histories.proofs.Rows.{Row, eventsOf, commit, onlyBreaks, Spoilt, breaks}
 use Rattle.histories.proofs.Deaths
@@ -34,18 +34,18 @@ abbrev pub refuted : Spoilt → Bool
 refuted s = not (holds (eventsOf (s .rows))) && onlyBreaks (s .rule) (eventsOf (s .rows))
 
 pub real-holds : (k : ℕ) → k < length real → kept (getD real k []) ≡ true
-unfolding every some ofKind by answeredBy withValue withEvent past21 accepted linkOn on isSend differentEnds givenSendOnly sendsApart endsIn upToStart startedBy isOwner latestTx isOwnersCommit committed flag2 makes isLinkOf serves failedEnd disconnect greatestClock timeoutOf timeoutAtStart due deadlinePassed finishes unfinished reasonAgainst othersAtWork senderRule commitRule aloneRule holds readCall readAnswer thenCalls thenList
+unfolding every some ofKind by answeredBy withValue withEvent past21 accepted linkOn on isSend differentEnds givenSendOnly sendsApart endsIn upToStart startedBy shownOwner latestTx isOwnersCommit committed flag2 makes isLinkOf serves failedEnd disconnect greatestClock shownTimeout timeoutAtStart due deadlinePassed finishes unfinished reasonAgainst othersAtWork senderRule commitRule aloneRule holds firstCall firstAnswer thenCalls thenList
 real-holds = entry kept [] real refl
 
 pub harmless-holds : (k : ℕ) → k < length harmless → kept (getD harmless k []) ≡ true
-unfolding every some ofKind by answeredBy withValue withEvent past21 accepted linkOn on isSend differentEnds givenSendOnly sendsApart endsIn upToStart startedBy isOwner latestTx isOwnersCommit committed flag2 makes isLinkOf serves failedEnd disconnect greatestClock timeoutOf timeoutAtStart due deadlinePassed finishes unfinished reasonAgainst othersAtWork senderRule commitRule aloneRule holds readCall readAnswer thenCalls thenList
+unfolding every some ofKind by answeredBy withValue withEvent past21 accepted linkOn on isSend differentEnds givenSendOnly sendsApart endsIn upToStart startedBy shownOwner latestTx isOwnersCommit committed flag2 makes isLinkOf serves failedEnd disconnect greatestClock shownTimeout timeoutAtStart due deadlinePassed finishes unfinished reasonAgainst othersAtWork senderRule commitRule aloneRule holds firstCall firstAnswer thenCalls thenList
 harmless-holds = entry kept [] harmless refl
 
 pub spoilt-refuted : (k : ℕ) → k < length spoilt → refuted (getD spoilt k (breaks commit [])) ≡ true
-unfolding every some ofKind by answeredBy withValue withEvent past21 accepted linkOn on isSend differentEnds givenSendOnly sendsApart endsIn upToStart startedBy isOwner latestTx isOwnersCommit committed flag2 makes isLinkOf serves failedEnd disconnect greatestClock timeoutOf timeoutAtStart due deadlinePassed finishes unfinished reasonAgainst othersAtWork senderRule commitRule aloneRule holds readCall readAnswer thenCalls thenList
+unfolding every some ofKind by answeredBy withValue withEvent past21 accepted linkOn on isSend differentEnds givenSendOnly sendsApart endsIn upToStart startedBy shownOwner latestTx isOwnersCommit committed flag2 makes isLinkOf serves failedEnd disconnect greatestClock shownTimeout timeoutAtStart due deadlinePassed finishes unfinished reasonAgainst othersAtWork senderRule commitRule aloneRule holds firstCall firstAnswer thenCalls thenList
 spoilt-refuted = entry refuted (breaks commit []) spoilt refl
 
 -- nor does it hold of what the wrong rules answer
 pub faulty-refuted : (k : ℕ) → k < length Faults.faulty → refuted (getD Faults.faulty k (breaks commit [])) ≡ true
-unfolding every some ofKind by answeredBy withValue withEvent past21 accepted linkOn on isSend differentEnds givenSendOnly sendsApart endsIn upToStart startedBy isOwner latestTx isOwnersCommit committed flag2 makes isLinkOf serves failedEnd disconnect greatestClock timeoutOf timeoutAtStart due deadlinePassed finishes unfinished reasonAgainst othersAtWork senderRule commitRule aloneRule holds readCall readAnswer thenCalls thenList
+unfolding every some ofKind by answeredBy withValue withEvent past21 accepted linkOn on isSend differentEnds givenSendOnly sendsApart endsIn upToStart startedBy shownOwner latestTx isOwnersCommit committed flag2 makes isLinkOf serves failedEnd disconnect greatestClock shownTimeout timeoutAtStart due deadlinePassed finishes unfinished reasonAgainst othersAtWork senderRule commitRule aloneRule holds firstCall firstAnswer thenCalls thenList
 faulty-refuted = entry refuted (breaks commit []) Faults.faulty refl

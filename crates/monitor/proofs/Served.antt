@@ -17,20 +17,20 @@ use Rattle.rules.specs.declared.Party.{Party}
 use Rattle.rules.specs.declared.Link.{Link}
 use Rattle.rules.specs.declared.Monitor.{Monitor}
 use Rattle.rules.proofs.Logic.{pick-true, pick-false, test, same-ne, same-true, same-false, and-l, and-r, and-yes, and-false}
-use Rattle.monitor.specs.Served.{serves, foundOf}
+use Rattle.monitor.specs.Served.{servedBy, foundOf}
 
 -- ---- one link, as the code tests it
 module _ (p d : ℕ) (l : Link) where
-  pub serves-here : (b : Bool) → l .server ≡ p → isWorking l && eqb (l .number) d ≡ b → serves p d l ≡ b
-  unfolding serves same
+  pub serves-here : (b : Bool) → l .server ≡ p → isWorking l && eqb (l .number) d ≡ b → servedBy p d l ≡ b
+  unfolding servedBy same
   serves-here b e t = ap (λ (x : Bool). x && (isWorking l && eqb (l .number) d)) (eq-eqb _ _ e) ∙ t
 
-  pub serves-else : (l .server ≡ p → ⊥) → serves p d l ≡ false
-  unfolding serves
+  pub serves-else : (l .server ≡ p → ⊥) → servedBy p d l ≡ false
+  unfolding servedBy
   serves-else n = ap (λ (x : Bool). x && (isWorking l && same (l .number) d)) (same-ne _ _ n)
 
-  serves-not : same (l .number) d ≡ false → serves p d l ≡ false
-  unfolding serves
+  serves-not : same (l .number) d ≡ false → servedBy p d l ≡ false
+  unfolding servedBy
   serves-not e = ap (λ (x : Bool). same (l .server) p && (isWorking l && x)) e ∙ ap (λ (x : Bool). same (l .server) p && x) (and-false (isWorking l)) ∙ and-false (same (l .server) p)
 
 -- ---- good links: the first is past prev, and the rest past it
@@ -74,7 +74,7 @@ chosen d n false false e z = ne-eqb d 0 z
 
 module _ (last p d : ℕ) (z : d ≡ 0 → ⊥) where
   finds-here : (l : Link) (ls : List Link) → linksGood last (l .number) ls ≡ true → same (l .number) d ≡ true → eqb d (foundOf p d 0 (l ∷ ls)) ≡ worksFor p (getD (l ∷ ls) (firstOf (numbered d) (l ∷ ls)) freshLink)
-  unfolding foundOf firstOf worksFor numbered serves
+  unfolding foundOf firstOf worksFor numbered servedBy
   finds-here l ls g t =
       let e : l .number ≡ d = same-true _ _ t in
       ap (eqb d) (past last p d ls (l .number) _ g (omega arith))
@@ -115,12 +115,12 @@ pub found-over : (p d f : ℕ) (s : List Link) → s ≡ [] → foundOf p d f s 
 unfolding foundOf
 found-over p d f s k = ap (foundOf p d f) k
 
-pub found-next : (p d f h : ℕ) (s : List Link) (l : Link) (r : List Link) → s ≡ l ∷ r → pick (serves p d l) (l .number) f ≡ h → foundOf p d f s ≡ foundOf p d h r
+pub found-next : (p d f h : ℕ) (s : List Link) (l : Link) (r : List Link) → s ≡ l ∷ r → pick (servedBy p d l) (l .number) f ≡ h → foundOf p d f s ≡ foundOf p d h r
 unfolding foundOf
 found-next p d f h s l r k e = ap (foundOf p d f) k ∙ ap (λ (x : ℕ). foundOf p d x r) e
 
 module _ (found : List ℕ) (d : ℕ → ℕ) (l : Link) (p : ℕ) where
-  pub found-put : length found ≡ 16 → l .server < 16 → isWorking l && eqb (l .number) (d (l .server)) ≡ true → pick (serves p (d p) l) (l .number) (getD found p 0) ≡ getD (set found (l .server) (l .number)) p 0
+  pub found-put : length found ≡ 16 → l .server < 16 → isWorking l && eqb (l .number) (d (l .server)) ≡ true → pick (servedBy p (d p) l) (l .number) (getD found p 0) ≡ getD (set found (l .server) (l .number)) p 0
   found-put n h t =
       test (same (l .server) p)
       (λ s.
@@ -131,7 +131,7 @@ module _ (found : List ℕ) (d : ℕ → ℕ) (l : Link) (p : ℕ) where
       let e = same-false _ _ s in
       pick-false _ _ _ (serves-else p (d p) l e) ∙ sym (getD-set-other found (l .server) p (l .number) 0 (λ q. e (sym q))))
 
-  pub found-kept : isWorking l && eqb (l .number) (d (l .server)) ≡ false → pick (serves p (d p) l) (l .number) (getD found p 0) ≡ getD found p 0
+  pub found-kept : isWorking l && eqb (l .number) (d (l .server)) ≡ false → pick (servedBy p (d p) l) (l .number) (getD found p 0) ≡ getD found p 0
   found-kept t =
       test (same (l .server) p)
       (λ s.

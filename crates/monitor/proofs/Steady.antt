@@ -10,7 +10,7 @@ use Rattle.rules.specs.declared.Monitor.{Monitor}
 use Rattle.rules.specs.declared.Ruled.{Ruled}
 use Rattle.rules.specs.declared.Stepped.{Stepped}
 use Rattle.rules.specs.Sound.{sound}
-use Rattle.rules.specs.Step.{isKind, advanced, ruleOf, told, callOf}
+use Rattle.rules.specs.Step.{isKind, advanced, ruleOf, answeredTo, callOf}
 use Rattle.rules.proofs.Logic.{pick-true}
 use Rattle.rules.proofs.Kept.{call-sound-kept}
 use Rattle.monitor.specs.View.{view}
@@ -22,12 +22,12 @@ module _ (xs : List ℕ) (c : Call) where
 
   -- the rule's part of a call past question 21: r is what it gives on the record n, whose clock is set
   module _ (k : isKind (c .kind) ≡ true) (p : c .party ≤ 15) (n : Monitor) (e : n ≡ advanced (view xs) (c .clock)) (r : Ruled) (f : r ≡ ruleOf n (c .party) (c .kind) (c .a) (c .b) (c .c)) where
-    pub told-call : told r (c .party) ≡ callOf (view xs) c
+    pub told-call : answeredTo r (c .party) ≡ callOf (view xs) c
     unfolding callOf
     told-call =
-        ap (λ (x : Ruled). told x (c .party)) (f ∙ ap (λ (m : Monitor). ruleOf m (c .party) (c .kind) (c .a) (c .b) (c .c)) e)
+        ap (λ (x : Ruled). answeredTo x (c .party)) (f ∙ ap (λ (m : Monitor). ruleOf m (c .party) (c .kind) (c .a) (c .b) (c .c)) e)
         ∙ sym (pick-true _ _ _ k ∙ pick-true _ _ _ (le-leb _ _ p))
 
     pub rule-room : sound (view xs) ≡ true → r .monitor .count ≤ 32
-    unfolding told
+    unfolding answeredTo
     rule-room h = sound-room (r .monitor) (ap (λ (s : Stepped). sound (s .monitor)) told-call ∙ call-sound h)

@@ -23,22 +23,22 @@ unfoldable pub use Rattle.rules.specs.Choice.{pick, same}
 unfoldable pub use Rattle.rules.specs.Lists.{firstOf, anyOf, collect}
 pub use Rattle.rules.specs.Codes.{txOk, unknownKind, noSuchEnd, noRoomLeft, inTransaction, timedOut, noReplyYet}
 unfoldable pub use Rattle.rules.specs.Codes.{noBegin}
-pub use Rattle.rules.specs.Record.{freshParty, freshLink, isOpened, isRollbackOnly, isRequest, isAttached, isWaiting, isReturned, isServerFree, party, live, withSettings, withUnread, withContents, withTimeout, owningNone, rollbackOnly, closed, cutOff, returned, withoutOldest, withClock, withLastLink, withLastTx, withParties, withParty, withLinks, withCount, replaced, added, ruled, valued, ask}
+pub use Rattle.rules.specs.Record.{freshParty, freshLink, isOpened, isRollbackOnly, isRequest, isAttached, isWaiting, isReturned, isServerFree, party, live, withSettings, withUnread, withContents, withTimeout, owningNone, rollbackOnly, closed, disconnectedLink, returned, withoutOldest, withClock, withLastLink, withLastTx, withParties, withParty, withLinks, withCount, replaced, added, ruled, valued, ask}
 unfoldable pub use Rattle.rules.specs.Record.{blanks, numbered, owns, ownEnd, linkOf, changed, goneOf, removed}
-pub use Rattle.rules.specs.Transaction.{late, doom}
-unfoldable pub use Rattle.rules.specs.Transaction.{servedTx, txOf, ended, expired, isOwner, doomedIn, deadlineOf, beginTx, orphaned, endOf, endTx, isOpenOf, canCommit}
+pub use Rattle.rules.specs.Transaction.{late, rollbackOnlyTx}
+unfoldable pub use Rattle.rules.specs.Transaction.{servedTx, txOf, ended, expired, isOwner, rollbackOnlyIn, deadlineOf, beginTx, orphaned, endOf, endTx, isOpenOf, canCommit}
 unfoldable pub use Rattle.rules.specs.States.{stateOf, nextOf, inState, entered}
 unfoldable pub use Rattle.rules.specs.Tx.{openOf, closeOf, beginOf, goOn, commitCode, commitOf, rollbackOf, infoOf, commitReturnOf, controlOf, timeoutOf}
 pub use Rattle.rules.specs.Services.{isService}
 unfoldable pub use Rattle.rules.specs.Services.{inSet, offers, withService, offersNow, advertiseOf, unadvertiseOf}
 pub use Rattle.rules.specs.Requests.{connectFlags}
 unfoldable pub use Rattle.rules.specs.Requests.{linkTx, askLink, requestOf, connectOf, isIdle, fits, dispatchEvent, dispatched, dispatchOf, requestEnd, outcomeCode, fetched, fetchOf, cancelled, cancelOf}
-unfoldable pub use Rattle.rules.specs.Conversations.{originatorEnd, serverEnd, anyEnd, hearsCut, hearsReturn, endSide, holds, tellsCut, tellsReturn, sendOn, sendOf, carriesGrant, received, receiveOn, receiveOf, hungUp, disconnectOf}
-unfoldable pub use Rattle.rules.specs.Return.{plainOutcome, outcomeOf, unreadAfter, closeEnd, doomedBy, closeOwn, endOwn, doomServed, servesNone, endingOf, handBack, leave, returnWith, returnOf, diedOut, terminateOf}
+unfoldable pub use Rattle.rules.specs.Conversations.{originatorEnd, serverEnd, anyEnd, hearsDisconnect, hearsReturn, endSide, isSender, tellsDisconnect, tellsReturn, sendOn, sendOf, carriesGrant, received, receiveOn, receiveOf, disconnectedAt, disconnectOf}
+unfoldable pub use Rattle.rules.specs.Return.{plainOutcome, outcomeOf, unreadAfter, closeEnd, rollbackOnlyBy, closeOwn, endOwn, rollbackOnlyServed, servesNone, endingOf, handBack, leave, returnWith, returnOf, diedOut, terminateOf}
 pub use Rattle.rules.specs.Sound.{linkGood}
 unfoldable pub use Rattle.rules.specs.Sound.{linksGood, worksFor, partyGood, partiesGood, sound}
 pub use Rattle.rules.specs.Step.{answered}
-unfoldable pub use Rattle.rules.specs.Step.{ruleOf, laterOf, told, turnedDown, callOf, stepOf}
+unfoldable pub use Rattle.rules.specs.Step.{ruleOf, laterOf, answeredTo, turnedDown, callOf, stepOf}
 pub use Rattle.rules.specs.Run.{listed}
 unfoldable pub use Rattle.rules.specs.Run.{placesOf, ranOf, answersOf, listOf}
 unfoldable pub use Rattle.rules.specs.Equal.{sameParty, sameLink, allSame, sameRecord, equal}

@@ -11,13 +11,13 @@ use Rattle.rules.specs.declared.Link.{Link}
 use Rattle.rules.specs.declared.Monitor.{Monitor}
 
 -- is it a working link with the number d and party p as server
-unfoldable pub serves : ℕ → ℕ → Link → Bool
-serves p d l = same (l .server) p && (isWorking l && same (l .number) d)
+unfoldable pub servedBy : ℕ → ℕ → Link → Bool
+servedBy p d l = same (l .server) p && (isWorking l && same (l .number) d)
 
 -- the number found for party p, which serves d, with f found before
 unfoldable pub foundOf : ℕ → ℕ → ℕ → List Link → ℕ
 foundOf p d f [] = f
-foundOf p d f (l ∷ ls) = foundOf p d (pick (serves p d l) (l .number) f) ls
+foundOf p d f (l ∷ ls) = foundOf p d (pick (servedBy p d l) (l .number) f) ls
 
 abbrev pub foundFor : Monitor → ℕ → ℕ → List Link → ℕ
 foundFor m p f ls = foundOf p (party m p .served) f ls

@@ -3,18 +3,18 @@ ghost use mathlib.Core.Path.{_≡_};
 ghost use Prim.Native.Nat.{_+_, _<_, _≤_};
 ghost use lib.ListN.{length};
 ghost use Rattle.rules.specs.Record.{placeOf, notified, withSent, withoutOldest};
-ghost use Rattle.rules.specs.Conversations.{originatorEnd, serverEnd, anyEnd, hearsCut, hearsReturn, endSide, holds, tellsCut, tellsReturn, sendOn, sendOf, carriesGrant, received, receiveOn, receiveOf, hungUp, disconnectOf};
+ghost use Rattle.rules.specs.Conversations.{originatorEnd, serverEnd, anyEnd, hearsDisconnect, hearsReturn, endSide, isSender, tellsDisconnect, tellsReturn, sendOn, sendOf, carriesGrant, received, receiveOn, receiveOf, disconnectedAt, disconnectOf};
 ghost use Rattle.monitor.specs.Words.{words};
 ghost use Rattle.monitor.specs.View.{view, ruledBy};
 use super::Told;
 use super::links::accept;
 use super::links::coded;
-use super::links::cut_off;
+use super::links::disconnect_link;
 use super::links::is_own_end;
 use super::links::place_of;
 use super::links::remove_at;
-use super::transaction::doom_tx;
 use super::transaction::is_expired;
+use super::transaction::set_rollback_only;
 use super::words::WORDS;
 use super::words::count;
 use super::words::link_at;
@@ -44,8 +44,8 @@ pub(crate) fn is_any_end(p: usize, l: Link) -> bool
     originates | serves
 }
 
-pub(crate) fn hears_cut(p: usize, l: Link) -> bool
-    ensures { λ r. ⌜ r ≡ hearsCut p l ⌝ }
+pub(crate) fn hears_disconnect(p: usize, l: Link) -> bool
+    ensures { λ r. ⌜ r ≡ hearsDisconnect p l ⌝ }
 {
     let originates = is_originator_end(p, l);
     !originates & (l.disconnected == 1)
@@ -69,8 +69,8 @@ pub(crate) fn end_side(p: usize, l: Link) -> u32
     1
 }
 
-pub(crate) fn is_holder(p: usize, l: Link) -> bool
-    ensures { λ r. ⌜ r ≡ holds p l ⌝ }
+pub(crate) fn is_sender(p: usize, l: Link) -> bool
+    ensures { λ r. ⌜ r ≡ isSender p l ⌝ }
 {
     let side = end_side(p, l);
     l.sender == side
@@ -84,10 +84,10 @@ pub(crate) fn notify(l: Link) -> Link
     k
 }
 
-// The server learns that the link a, which stands at the place i, was cut.
-pub(crate) fn tell_cut(s: &mut [u32; WORDS], i: usize, a: u32, l: Link) -> Told
+// The server is notified that the link a, which stands at the place i, was disconnected.
+pub(crate) fn tell_disconnect(s: &mut [u32; WORDS], i: usize, a: u32, l: Link) -> Told
     requires { ⌜ (view (now s) .count ≤ 32) × (length (now s) ≡ words) × (i ≡ placeOf (view (now s)) a) × (i < view (now s) .count) ⌝ }
-    ensures { λ r. ⌜ (ruledBy r (view (now (s .exit))) ≡ tellsCut (view (now (s .entry))) a l) × (length (now (s .exit)) ≡ words) ⌝ }
+    ensures { λ r. ⌜ (ruledBy r (view (now (s .exit))) ≡ tellsDisconnect (view (now (s .entry))) a l) × (length (now (s .exit)) ≡ words) ⌝ }
 {
     let k = notify(l);
     put_link(&mut *s, i, k);
@@ -152,17 +152,17 @@ pub(crate) fn send_on(
     if late {
         return coded(28);
     }
-    let cut = hears_cut(p, l);
-    if cut {
-        return tell_cut(&mut *s, i, a, l);
+    let disconnected = hears_disconnect(p, l);
+    if disconnected {
+        return tell_disconnect(&mut *s, i, a, l);
     }
     let over = hears_return(p, l);
     let failed = over & !(l.outcome == 8);
     if failed {
         return tell_return(&mut *s, i, a, l);
     }
-    let holder = is_holder(p, l);
-    let free = holder & (l.granting == 0);
+    let sender = is_sender(p, l);
+    let free = sender & (l.granting == 0);
     if !free {
         return coded(23);
     }
@@ -253,16 +253,16 @@ pub(crate) fn receive_on(s: &mut [u32; WORDS], p: usize, i: usize, a: u32, l: Li
     if late {
         return coded(28);
     }
-    let cut = hears_cut(p, l);
-    if cut {
-        return tell_cut(&mut *s, i, a, l);
+    let disconnected = hears_disconnect(p, l);
+    if disconnected {
+        return tell_disconnect(&mut *s, i, a, l);
     }
     let over = hears_return(p, l);
     if over {
         return tell_return(&mut *s, i, a, l);
     }
-    let holder = is_holder(p, l);
-    if holder {
+    let sender = is_sender(p, l);
+    if sender {
         return coded(23);
     }
     if l.filled == 0 {
@@ -285,13 +285,13 @@ pub(crate) fn tprecv(s: &mut [u32; WORDS], p: usize, a: u32) -> Told
     receive_on(&mut *s, p, i, a, l)
 }
 
-// The conversation a, which stands at the place i, is cut if working, and else goes.
-pub(crate) fn hang_up(s: &mut [u32; WORDS], i: usize, a: u32, l: Link)
+// The conversation a, which stands at the place i, is disconnected if working, and else goes.
+pub(crate) fn disconnect_at(s: &mut [u32; WORDS], i: usize, a: u32, l: Link)
     requires { ⌜ (view (now s) .count ≤ 32) × (length (now s) ≡ words) × (i ≡ placeOf (view (now s)) a) × (i < view (now s) .count) ⌝ }
-    ensures { λ _. ⌜ (view (now (s .exit)) ≡ hungUp (view (now (s .entry))) a l) × (length (now (s .exit)) ≡ words) ⌝ }
+    ensures { λ _. ⌜ (view (now (s .exit)) ≡ disconnectedAt (view (now (s .entry))) a l) × (length (now (s .exit)) ≡ words) ⌝ }
 {
     if l.state == 1 {
-        let k = cut_off(l);
+        let k = disconnect_link(l);
         put_link(&mut *s, i, k);
         return;
     }
@@ -313,7 +313,7 @@ pub(crate) fn tpdiscon(s: &mut [u32; WORDS], p: usize, a: u32) -> Told
     if !own {
         return coded(24);
     }
-    doom_tx(&mut *s, l.tx);
-    hang_up(&mut *s, i, a, l);
+    set_rollback_only(&mut *s, l.tx);
+    disconnect_at(&mut *s, i, a, l);
     accept(0)
 }

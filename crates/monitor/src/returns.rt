@@ -3,7 +3,7 @@ ghost use mathlib.Core.Path.{_≡_};
 ghost use Prim.Native.Nat.{_<_, _≤_};
 ghost use lib.ListN.{length};
 ghost use Rattle.rules.specs.Record.{isServerFree};
-ghost use Rattle.rules.specs.Return.{plainOutcome, outcomeOf, unreadAfter, closeOwn, endOwn, doomServed, servesNone, endingOf, handBack, leave, returnWith, returnOf, diedOut, terminateOf};
+ghost use Rattle.rules.specs.Return.{plainOutcome, outcomeOf, unreadAfter, closeOwn, endOwn, rollbackOnlyServed, servesNone, endingOf, handBack, leave, returnWith, returnOf, diedOut, terminateOf};
 ghost use Rattle.monitor.specs.Words.{words};
 ghost use Rattle.monitor.specs.View.{view, ruledBy};
 use super::Told;
@@ -11,7 +11,7 @@ use super::links::accept;
 use super::links::change_at;
 use super::links::close_end;
 use super::links::coded;
-use super::links::cut_off;
+use super::links::disconnect_link;
 use super::links::drop_unread;
 use super::links::first_own;
 use super::links::has_own_end;
@@ -20,9 +20,9 @@ use super::links::keep_first;
 use super::links::live_at;
 use super::links::place_of;
 use super::links::remove_at;
-use super::transaction::doom_tx;
 use super::transaction::end_tx;
 use super::transaction::first_of_tx;
+use super::transaction::set_rollback_only;
 use super::words::WORDS;
 use super::words::count;
 use super::words::link_at;
@@ -34,7 +34,7 @@ use super::words::served_at;
 use rules::Link;
 use rules::Party;
 
-// Is the server the free holder?
+// Is the server the sender, with no grant under way?
 pub(crate) fn is_server_free(l: Link) -> bool
     ensures { λ r. ⌜ r ≡ isServerFree l ⌝ }
 {
@@ -107,13 +107,13 @@ pub(crate) fn close_own(s: &mut [u32; WORDS], p: usize)
             j += 1;
         } else if l.kind == 1 {
             if l.state == 1 {
-                let k = cut_off(l);
+                let k = disconnect_link(l);
                 put_link(&mut *s, j, k);
-                doom_tx(&mut *s, l.tx);
+                set_rollback_only(&mut *s, l.tx);
                 i += 1;
                 j += 1;
             } else {
-                doom_tx(&mut *s, l.tx);
+                set_rollback_only(&mut *s, l.tx);
                 i += 1;
             }
         } else if l.state == 2 {
@@ -141,14 +141,14 @@ pub(crate) fn end_own(s: &mut [u32; WORDS], p: usize)
     end_tx(&mut *s, p, from);
 }
 
-pub(crate) fn doom_served(s: &mut [u32; WORDS], o: u32, t: u32)
+pub(crate) fn set_served_rollback_only(s: &mut [u32; WORDS], o: u32, t: u32)
     requires { ⌜ length (now s) ≡ words ⌝ }
-    ensures { λ _. ⌜ (view (now (s .exit)) ≡ doomServed o t (view (now (s .entry)))) × (length (now (s .exit)) ≡ words) ⌝ }
+    ensures { λ _. ⌜ (view (now (s .exit)) ≡ rollbackOnlyServed o t (view (now (s .entry)))) × (length (now (s .exit)) ≡ words) ⌝ }
 {
     if o == 8 {
         return;
     }
-    doom_tx(&mut *s, t);
+    set_rollback_only(&mut *s, t);
 }
 
 pub(crate) fn serve_none(s: &mut [u32; WORDS], p: usize)
@@ -197,7 +197,7 @@ pub(crate) fn leave_link(s: &mut [u32; WORDS], p: usize, d: u32, o: u32, e: u32)
     change_at(&mut *s, i, k);
     close_own(&mut *s, p);
     end_own(&mut *s, p);
-    doom_served(&mut *s, o, l.tx);
+    set_served_rollback_only(&mut *s, o, l.tx);
     serve_none(&mut *s, p);
     hand_back(&mut *s, d, o, e);
 }

@@ -4,7 +4,7 @@ ghost use mathlib.Core.Bool.{true};
 ghost use Prim.Native.Nat.{_<_, _≤_};
 ghost use lib.ListN.{length};
 ghost use Rattle.rules.specs.Sound.{sound};
-ghost use Rattle.rules.specs.Step.{ruleOf, laterOf, advanced, told, callOf, stepOf};
+ghost use Rattle.rules.specs.Step.{ruleOf, laterOf, advanced, answeredTo, callOf, stepOf};
 ghost use Rattle.monitor.specs.Words.{words};
 ghost use Rattle.monitor.specs.View.{view, ruledBy, stepped, codeAnswer};
 use super::Stepped;
@@ -93,7 +93,7 @@ pub(crate) fn advance(s: &mut [u32; WORDS], t: u32)
 // What a rule tells, with the caller's T afterwards.
 pub(crate) fn tell(s: &[u32; WORDS], r: Told, p: usize) -> Answer
     requires { ⌜ (p < 16) × (view (now s) .count ≤ 32) ⌝ }
-    ensures { λ a. ⌜ stepped a (view (now (s .entry))) ≡ told (ruledBy r (view (now (s .entry)))) p ⌝ }
+    ensures { λ a. ⌜ stepped a (view (now (s .entry))) ≡ answeredTo (ruledBy r (view (now (s .entry)))) p ⌝ }
 {
     let t = tx_of(s, p);
     Answer {

@@ -13,10 +13,10 @@ use Rattle.rules.specs.Choice.{pick}
 use Rattle.rules.specs.Codes.{unsound}
 use Rattle.rules.specs.Record.{freshMonitor}
 use Rattle.rules.specs.Sound.{sound}
-use Rattle.rules.specs.Step.{ruleOf, isKind, advanced, laterOf, told, turnedDown, callOf, stepOf}
+use Rattle.rules.specs.Step.{ruleOf, isKind, advanced, laterOf, answeredTo, turnedDown, callOf, stepOf}
 use Rattle.rules.specs.Run.{callAt, placesOf, ranOf, answersOf, callsIn, Listed, listOf}
-use Rattle.rules.specs.History.{Event, some, sameCode, answeredBy, readCall, readAnswer, thenCalls, thenList}
-use Rattle.rules.specs.Demand.{Entry, single, lent, thenLent, answered}
+use Rattle.rules.specs.History.{Event, some, sameCode, answeredBy, firstCall, firstAnswer, thenCalls, thenList}
+use Rattle.rules.specs.Demand.{Entry, single, lent, thenLent, thenEntries}
 use Rattle.rules.specs.After.{recordAfter}
 use Rattle.rules.specs.Refusals.{isEarly}
 use Rattle.rules.specs.declared.Call.{Call}
@@ -51,7 +51,7 @@ module _ (m : Monitor) (s : SoundRecord m) (c : Call) where
   rule-kept k p = rule-moved (advanced m (c .clock)) c fine₀ p k
 
   pub call-sound-kept : SoundRecord (callOf m c .monitor)
-  unfolding callOf told turnedDown
+  unfolding callOf answeredTo turnedDown
   call-sound-kept = byTest (λ (x : Stepped). SoundRecord (x .monitor))
       (λ k. byTest (λ (x : Stepped). SoundRecord (x .monitor))
       (λ p. let b : c .party < 16 = omega (arith, leb-true (c .party) 15 p) in of-fine (moved-fine (advanced m (c .clock)) c _ fine₀ (rule-kept k b) b))
@@ -82,8 +82,8 @@ entries-sound-kept (single c ∷ es) m s = entries-sound-kept es (stepOf m c .mo
 entries-sound-kept (lent cs out ∷ es) m s = entries-sound-kept es (listOf m cs out .monitor) (list-sound-kept m s cs out)
 
 -- it is the record in which the rules answer whatever comes after those entries
-pub answered-after : (es fs : List Entry) (m : Monitor) (h : List Event) → answered m h (es ++ fs) ≡ answered (recordAfter m es) (answered m h es) fs
-unfolding answered recordAfter
+pub answered-after : (es fs : List Entry) (m : Monitor) (h : List Event) → thenEntries m h (es ++ fs) ≡ thenEntries (recordAfter m es) (thenEntries m h es) fs
+unfolding thenEntries recordAfter
 answered-after [] fs m h = refl
 answered-after (single c ∷ es) fs m h = answered-after es fs (stepOf m c .monitor) _
 answered-after (lent cs out ∷ es) fs m h = answered-after es fs (listOf m cs out .monitor) _
@@ -102,7 +102,7 @@ past-not-19 code = codes-apart isEarly unsound code refl
 
 -- the questions after it never answer 19, whatever the record
 call-not-19 : (m : Monitor) (c : Call) → sameCode unsound (callOf m c .answer .code) ≡ false
-unfolding callOf told turnedDown
+unfolding callOf answeredTo turnedDown
 call-not-19 m c = byTest Not19
     (λ k. byTest Not19
     (λ _. past-not-19 _ (rule-past (advanced m (c .clock)) (c .party) (c .kind) (c .a) (c .b) (c .c) k))
@@ -135,7 +135,7 @@ Silent19 : List Event → Type 0
 Silent19 h = some (answeredBy unsound) h ≡ false
 
 calls-silent : (n : ℕ) (m : Monitor) (cs : List ℕ) (rest : List ℤ) (h : List Event) → Silent19 h → Silent19 (thenCalls n cs (answersOf n m cs ++ rest) h)
-unfolding thenCalls answersOf placesOf readAnswer readCall
+unfolding thenCalls answersOf placesOf firstAnswer firstCall
 calls-silent zero m cs rest h i = i
 calls-silent (suc n) m cs rest h i = calls-silent n (callOf m (callAt cs) .monitor) (drop 6 cs) rest _
     (unfold Silent19 some answeredBy in rw (call-not-19 m (callAt cs)) i)
@@ -148,14 +148,14 @@ list-silent m s cs out h i =
     Keeps : Listed → Type 0
     Keeps l = Silent19 (thenLent cs l h)
 
-entries-silent : (es : List Entry) (m : Monitor) (h : List Event) → SoundRecord m → Silent19 h → Silent19 (answered m h es)
-unfolding answered
+entries-silent : (es : List Entry) (m : Monitor) (h : List Event) → SoundRecord m → Silent19 h → Silent19 (thenEntries m h es)
+unfolding thenEntries
 entries-silent [] m h s i = i
 entries-silent (single c ∷ es) m h s i = entries-silent es (stepOf m c .monitor) _ (sound-kept m s c)
     (unfold Silent19 some answeredBy in rw (unsound-19 m c, s .isSound) i)
 entries-silent (lent cs out ∷ es) m h s i = entries-silent es (listOf m cs out .monitor) _ (list-sound-kept m s cs out) (list-silent m s cs out h i)
 
-pub never-19 : (es : List Entry) → some (answeredBy unsound) (answered freshMonitor [] es) ≡ false
+pub never-19 : (es : List Entry) → some (answeredBy unsound) (thenEntries freshMonitor [] es) ≡ false
 unfolding Silent19 some
 never-19 es = entries-silent es freshMonitor [] fresh-sound refl
 
@@ -169,7 +169,7 @@ module _ (m : Monitor) (sh : Shape m) (c : Call) where
   ClockOf s = s .monitor .clock ≡ pick (isEarly (s .answer .code)) (m .clock) (laterOf (m .clock) (c .clock))
 
   call-clock : sound m ≡ true → ClockOf (callOf m c)
-  unfolding callOf told turnedDown ClockOf isEarly
+  unfolding callOf answeredTo turnedDown ClockOf isEarly
   call-clock y =
       let s : SoundRecord m = record { shape = sh; isSound = y } in
       byTest ClockOf
@@ -198,7 +198,7 @@ module _ (m : Monitor) (sh : Shape m) (c : Call) where
   unmoved = record { clock = omega arith; lastlink = omega arith; lasttx = omega arith }
 
   call-grows : sound m ≡ true → GrownTo (callOf m c)
-  unfolding callOf told turnedDown GrownTo
+  unfolding callOf answeredTo turnedDown GrownTo
   call-grows y =
       byTest GrownTo
       (λ k. byTest GrownTo

@@ -12,7 +12,7 @@ use lib.Seq.{drop-drop}
 use Rattle.rules.specs.Codes.{listRun, tooLittleRoom, cutShort, unsound}
 use Rattle.rules.specs.Step.{callOf}
 use Rattle.rules.specs.Run.{callAt, placesOf, ranOf, answersOf, callsIn, Listed, listed, listOf}
-use Rattle.rules.specs.History.{readAnswer}
+use Rattle.rules.specs.History.{firstAnswer}
 use Rattle.rules.specs.Refusals.{isRefusal, Refused}
 use Rattle.rules.specs.declared.Call.{Call}
 use Rattle.rules.specs.declared.Monitor.{Monitor}
@@ -27,7 +27,7 @@ callIn cs i = callAt (drop (i * 6) cs)
 
 -- what came of it: the record after the calls up to it, and its answer, read from its six places
 abbrev pub shownIn : Monitor → List ℕ → List ℤ → ℕ → Stepped
-shownIn m cs places i = record { monitor = ranOf (suc i) m cs; answer = readAnswer (drop (i * 6) places) }
+shownIn m cs places i = record { monitor = ranOf (suc i) m cs; answer = firstAnswer (drop (i * 6) places) }
 
 drop-six-more : {A : Type 0} (l : List A) (i : ℕ) → drop (suc i * 6) l ≡ drop (i * 6) (drop 6 l)
 drop-six-more l i = let e : suc i * 6 ≡ 6 + i * 6 = omega arith in rw e (sym (drop-drop (i * 6) 6 l))
@@ -39,12 +39,12 @@ record-in-place (suc i) m cs = record-in-place i (callOf m (callAt cs) .monitor)
     ∙ ap (λ (x : List ℕ). callOf (ranOf i (callOf m (callAt cs) .monitor) (drop 6 cs)) (callAt x) .monitor) (sym (drop-six-more cs i))
 
 answer-in-place : (n i : ℕ) (m : Monitor) (cs : List ℕ) (rest : List ℤ) → i < n
-    → readAnswer (drop (i * 6) (answersOf n m cs ++ rest)) ≡ callOf (ranOf i m cs) (callIn cs i) .answer
-unfolding ranOf answersOf placesOf readAnswer
+    → firstAnswer (drop (i * 6) (answersOf n m cs ++ rest)) ≡ callOf (ranOf i m cs) (callIn cs i) .answer
+unfolding ranOf answersOf placesOf firstAnswer
 answer-in-place zero i m cs rest h = absurd (not-suc-le-zero h)
 answer-in-place (suc n) zero m cs rest h = refl
 answer-in-place (suc n) (suc i) m cs rest h =
-    ap readAnswer (drop-six-more (answersOf (suc n) m cs ++ rest) i)
+    ap firstAnswer (drop-six-more (answersOf (suc n) m cs ++ rest) i)
     ∙ answer-in-place n i (callOf m (callAt cs) .monitor) (drop 6 cs) rest (le-of-suc-le-suc h)
     ∙ ap (λ (x : List ℕ). callOf (ranOf i (callOf m (callAt cs) .monitor) (drop 6 cs)) (callAt x) .answer) (sym (drop-six-more cs i))
 

@@ -18,9 +18,9 @@ use Rattle.rules.specs.States.{stateOf, nextOf, inState, entered}
 use Rattle.rules.specs.Tx.{openOf, closeOf, beginOf, goOn, commitCode, commitOf, timeoutOf}
 use Rattle.rules.specs.Services.{inSet, offers, countTo, offered, withService, offersNow, advertiseOf}
 use Rattle.rules.specs.Requests.{linkTx, askLink, requestOf, connectOf, requestEnd, cancelOf}
-use Rattle.rules.specs.Conversations.{originatorEnd, serverEnd, anyEnd, hearsCut, hearsReturn, endSide, holds, sendOn, sendOf}
+use Rattle.rules.specs.Conversations.{originatorEnd, serverEnd, anyEnd, hearsDisconnect, hearsReturn, endSide, isSender, sendOn, sendOf}
 use Rattle.rules.specs.Sound.{linksGood, worksFor, partyGood, partiesGood, sound}
-use Rattle.rules.specs.Step.{ruleOf, laterOf, told, turnedDown, callOf}
+use Rattle.rules.specs.Step.{ruleOf, laterOf, answeredTo, turnedDown, callOf}
 use Rattle.rules.specs.Run.{callAt, placesOf, ranOf, answersOf, Listed, listOf}
 use Rattle.rules.specs.History.{sameCode}
 use Rattle.rules.proofs.Logic.{and-l, and-r}
@@ -122,5 +122,5 @@ holds-right e h =
     }
 
 pub marked-holds : (k : ℕ) → k < length marked → Holds (getD marked k freshBegin)
-unfolding every right pick same noBegin firstOf anyOf collect blanks numbered owns ownEnd linkOf changed goneOf removed servedTx txOf ended expired isOwner deadlineOf beginTx orphaned endOf endTx isOpenOf canCommit stateOf nextOf inState entered openOf closeOf beginOf goOn commitCode commitOf timeoutOf inSet offers countTo offered withService offersNow advertiseOf linkTx askLink requestOf connectOf requestEnd cancelOf originatorEnd serverEnd anyEnd hearsCut hearsReturn endSide holds sendOn sendOf linksGood worksFor partyGood partiesGood sound ruleOf laterOf told turnedDown callOf callAt placesOf ranOf answersOf listOf
+unfolding every right pick same noBegin firstOf anyOf collect blanks numbered owns ownEnd linkOf changed goneOf removed servedTx txOf ended expired isOwner deadlineOf beginTx orphaned endOf endTx isOpenOf canCommit stateOf nextOf inState entered openOf closeOf beginOf goOn commitCode commitOf timeoutOf inSet offers countTo offered withService offersNow advertiseOf linkTx askLink requestOf connectOf requestEnd cancelOf originatorEnd serverEnd anyEnd hearsDisconnect hearsReturn endSide isSender sendOn sendOf linksGood worksFor partyGood partiesGood sound ruleOf laterOf answeredTo turnedDown callOf callAt placesOf ranOf answersOf listOf
 marked-holds k h = holds-right (getD marked k freshBegin) (entry right freshBegin marked refl k h)

@@ -1,4 +1,4 @@
--- Looking a party up after each change of the parties, the owner of a transaction, and the marks of the doomed ones.
+-- Looking a party up after each change of the parties, the owner of a transaction, and the marks of those that can only be rolled back.
 -- Assumes nothing.
 use mathlib.Core.Path.{_≡_, refl, sym, ap, _∙_}
 use mathlib.Core.List.{List, [], _∷_}
@@ -12,9 +12,9 @@ use borrow.Author.Tests.{eqb-true, eqb-false, ltb-true, ltb-false, ne-eqb}
 use Rattle.rules.specs.Choice.{pick, same}
 use Rattle.rules.specs.Lists.{firstOf, anyOf}
 use Rattle.rules.specs.Record.{freshParty, isRollbackOnly, owns, ownEnd, party, rollbackOnly, withParty}
-use Rattle.rules.specs.Transaction.{txOf, ownerOf, ownerParty, ended, isOwner, doomedIn}
+use Rattle.rules.specs.Transaction.{txOf, ownerOf, ownerParty, ended, isOwner, rollbackOnlyIn}
 use Rattle.rules.specs.Conversations.{originatorEnd}
-use Rattle.rules.specs.Return.{doomedBy}
+use Rattle.rules.specs.Return.{rollbackOnlyBy}
 use Rattle.rules.specs.Sound.{choicesGood}
 use Rattle.rules.specs.declared.Link.{Link}
 use Rattle.rules.specs.declared.Party.{Party}
@@ -78,7 +78,7 @@ module _ (m : Monitor) where
       let z : eqb (party m p .owned) 0 ≡ false = ne-eqb _ 0 (same-false _ 0 n) in
       rw (z, owner-is (party m p .owned) n p (m .parties) refl u) (same-refl p)
 
--- ---- a transaction is doomed by its owner's mark
+-- ---- a transaction becomes rollback-only by its owner's mark
 marks-either : (t : ℕ) (X : Party → Type 0) (q : ℕ) (ps : List Party) → X (getD ps q freshParty) → X (rollbackOnly (getD ps q freshParty))
     → X (getD (set ps (ownerOf ps t) (rollbackOnly (ownerParty ps t))) q freshParty)
 unfolding firstOf owns pick
@@ -93,30 +93,30 @@ marks-miss t q [] h = refl
 marks-miss t zero (x ∷ ps) h = rw (same-ne (x .owned) t h)
 marks-miss t (suc q) (x ∷ ps) h = test (same (x .owned) t) (λ y. rw y) (λ y. rw y (marks-miss t q ps h))
 
-pub doom-length : (t : ℕ) (ps : List Party) → length (doomedIn t ps) ≡ length ps
-unfolding doomedIn
-doom-length t ps = byTest (λ (x : List Party). length x ≡ length ps) (λ _. refl) (λ _. length-set ps _ _)
+pub rollbackOnlyIn-length : (t : ℕ) (ps : List Party) → length (rollbackOnlyIn t ps) ≡ length ps
+unfolding rollbackOnlyIn
+rollbackOnlyIn-length t ps = byTest (λ (x : List Party). length x ≡ length ps) (λ _. refl) (λ _. length-set ps _ _)
 
 -- each party is as it was, or has the mark besides
-pub doom-either : (t : ℕ) (X : Party → Type 0) (q : ℕ) (ps : List Party) → X (getD ps q freshParty) → X (rollbackOnly (getD ps q freshParty)) → X (getD (doomedIn t ps) q freshParty)
-unfolding doomedIn
-doom-either t X q ps a b = byTest (λ (x : List Party). X (getD x q freshParty)) (λ _. a) (λ _. marks-either t X q ps a b)
+pub rollbackOnlyIn-either : (t : ℕ) (X : Party → Type 0) (q : ℕ) (ps : List Party) → X (getD ps q freshParty) → X (rollbackOnly (getD ps q freshParty)) → X (getD (rollbackOnlyIn t ps) q freshParty)
+unfolding rollbackOnlyIn
+rollbackOnlyIn-either t X q ps a b = byTest (λ (x : List Party). X (getD x q freshParty)) (λ _. a) (λ _. marks-either t X q ps a b)
 
-pub doom-miss : (t q : ℕ) (ps : List Party) → (getD ps q freshParty .owned ≡ t → ⊥) → getD (doomedIn t ps) q freshParty ≡ getD ps q freshParty
-unfolding doomedIn
-doom-miss t q ps h = byTest (λ (x : List Party). getD x q freshParty ≡ getD ps q freshParty) (λ _. refl) (λ _. marks-miss t q ps h)
+pub rollbackOnlyIn-miss : (t q : ℕ) (ps : List Party) → (getD ps q freshParty .owned ≡ t → ⊥) → getD (rollbackOnlyIn t ps) q freshParty ≡ getD ps q freshParty
+unfolding rollbackOnlyIn
+rollbackOnlyIn-miss t q ps h = byTest (λ (x : List Party). getD x q freshParty ≡ getD ps q freshParty) (λ _. refl) (λ _. marks-miss t q ps h)
 
 -- a party that owns nothing is marked by none
-pub doom-free : (t q : ℕ) (ps : List Party) → getD ps q freshParty .owned ≡ 0 → getD (doomedIn t ps) q freshParty ≡ getD ps q freshParty
-unfolding doomedIn
-doom-free t q ps e = test (eqb t 0)
+pub rollbackOnlyIn-free : (t q : ℕ) (ps : List Party) → getD ps q freshParty .owned ≡ 0 → getD (rollbackOnlyIn t ps) q freshParty ≡ getD ps q freshParty
+unfolding rollbackOnlyIn
+rollbackOnlyIn-free t q ps e = test (eqb t 0)
     (λ z. ap (λ x. getD x q freshParty) (pick-true _ _ _ z))
-    (λ z. doom-miss t q ps (λ i. eqb-false t 0 z (sym i ∙ e)))
+    (λ z. rollbackOnlyIn-miss t q ps (λ i. eqb-false t 0 z (sym i ∙ e)))
 
-pub doom-hit : (t : ℕ) → Nz t → (q : ℕ) (ps : List Party) → getD ps q freshParty .owned ≡ t → ((r : ℕ) → getD ps r freshParty .owned ≡ t → r ≡ q)
-    → getD (doomedIn t ps) q freshParty ≡ rollbackOnly (getD ps q freshParty)
-unfolding doomedIn
-doom-hit t n q ps h u =
+pub rollbackOnlyIn-hit : (t : ℕ) → Nz t → (q : ℕ) (ps : List Party) → getD ps q freshParty .owned ≡ t → ((r : ℕ) → getD ps r freshParty .owned ≡ t → r ≡ q)
+    → getD (rollbackOnlyIn t ps) q freshParty ≡ rollbackOnly (getD ps q freshParty)
+unfolding rollbackOnlyIn
+rollbackOnlyIn-hit t n q ps h u =
     ap (λ (x : List Party). getD x q freshParty) (pick-false _ _ _ (ne-eqb t 0 (same-false t 0 n)))
     ∙ rw (owner-is t n q ps h u) (getD-set-same ps q _ freshParty (owner-in ps q (rw h n)))
 
@@ -149,44 +149,44 @@ pub marks-good : (x y : Party) → Marks x y → choicesGood x ≡ true → choi
 marks-good x y (plain e) g = rw e g
 marks-good x y (marked e) g = rw e (mark-good x g)
 
--- ---- the transactions of party p's open conversations are doomed
-pub doomedBy-length : (p : ℕ) (ls : List Link) (ps : List Party) → length (doomedBy p ls ps) ≡ length ps
-unfolding doomedBy
-doomedBy-length p [] ps = refl
-doomedBy-length p (l ∷ ls) ps = doomedBy-length p ls _ ∙ byTest (λ (x : List Party). length x ≡ length ps) (λ _. doom-length (l .tx) ps) (λ _. refl)
+-- ---- the transactions of party p's open conversations become rollback-only
+pub rollbackOnlyBy-length : (p : ℕ) (ls : List Link) (ps : List Party) → length (rollbackOnlyBy p ls ps) ≡ length ps
+unfolding rollbackOnlyBy
+rollbackOnlyBy-length p [] ps = refl
+rollbackOnlyBy-length p (l ∷ ls) ps = rollbackOnlyBy-length p ls _ ∙ byTest (λ (x : List Party). length x ≡ length ps) (λ _. rollbackOnlyIn-length (l .tx) ps) (λ _. refl)
 
-pub doomedBy-either : (p : ℕ) (X : Party → Type 0) → ((x : Party) → X x → X (rollbackOnly x)) → (q : ℕ) (ls : List Link) (ps : List Party)
-    → X (getD ps q freshParty) → X (getD (doomedBy p ls ps) q freshParty)
-unfolding doomedBy
-doomedBy-either p X f q [] ps a = a
-doomedBy-either p X f q (l ∷ ls) ps a =
-    doomedBy-either p X f q ls _ (byTest (λ (y : List Party). X (getD y q freshParty)) (λ _. doom-either (l .tx) X q ps a (f _ a)) (λ _. a))
+pub rollbackOnlyBy-either : (p : ℕ) (X : Party → Type 0) → ((x : Party) → X x → X (rollbackOnly x)) → (q : ℕ) (ls : List Link) (ps : List Party)
+    → X (getD ps q freshParty) → X (getD (rollbackOnlyBy p ls ps) q freshParty)
+unfolding rollbackOnlyBy
+rollbackOnlyBy-either p X f q [] ps a = a
+rollbackOnlyBy-either p X f q (l ∷ ls) ps a =
+    rollbackOnlyBy-either p X f q ls _ (byTest (λ (y : List Party). X (getD y q freshParty)) (λ _. rollbackOnlyIn-either (l .tx) X q ps a (f _ a)) (λ _. a))
 
 -- what one link does to party q
-doomedBy-step : (p q : ℕ) (l : Link) (ps : List Party) → (originatorEnd p l ≡ true → getD (doomedIn (l .tx) ps) q freshParty ≡ getD ps q freshParty)
-    → getD (pick (originatorEnd p l) (doomedIn (l .tx) ps) ps) q freshParty ≡ getD ps q freshParty
-doomedBy-step p q l ps a = byTest (λ (y : List Party). getD y q freshParty ≡ getD ps q freshParty) a (λ _. refl)
+rollbackOnlyBy-step : (p q : ℕ) (l : Link) (ps : List Party) → (originatorEnd p l ≡ true → getD (rollbackOnlyIn (l .tx) ps) q freshParty ≡ getD ps q freshParty)
+    → getD (pick (originatorEnd p l) (rollbackOnlyIn (l .tx) ps) ps) q freshParty ≡ getD ps q freshParty
+rollbackOnlyBy-step p q l ps a = byTest (λ (y : List Party). getD y q freshParty ≡ getD ps q freshParty) a (λ _. refl)
 
 -- a party that owns nothing stays as it was, and so does one whose transaction is that of none of them
-pub doomedBy-free : (p q : ℕ) (ls : List Link) (ps : List Party) → getD ps q freshParty .owned ≡ 0 → getD (doomedBy p ls ps) q freshParty ≡ getD ps q freshParty
-unfolding doomedBy
-doomedBy-free p q [] ps e = refl
-doomedBy-free p q (l ∷ ls) ps e = let i = doomedBy-step p q l ps (λ _. doom-free (l .tx) q ps e) in doomedBy-free p q ls _ (ap (λ x. x .owned) i ∙ e) ∙ i
+pub rollbackOnlyBy-free : (p q : ℕ) (ls : List Link) (ps : List Party) → getD ps q freshParty .owned ≡ 0 → getD (rollbackOnlyBy p ls ps) q freshParty ≡ getD ps q freshParty
+unfolding rollbackOnlyBy
+rollbackOnlyBy-free p q [] ps e = refl
+rollbackOnlyBy-free p q (l ∷ ls) ps e = let i = rollbackOnlyBy-step p q l ps (λ _. rollbackOnlyIn-free (l .tx) q ps e) in rollbackOnlyBy-free p q ls _ (ap (λ x. x .owned) i ∙ e) ∙ i
 
 not-missing : (p e lo hi : ℕ) (ls : List Link) → Between lo ls hi → originatorEnd p (look e ls) ≡ true → lo < e
 unfolding originatorEnd ownEnd noLink
 not-missing p e lo hi ls h o = test (ltb lo e) (λ a. ltb-true _ _ a)
     (λ a. not-both (rw (look-below lo hi e ls h (ltb-false _ _ a)) at o) refl)
 
-pub doomedBy-miss : (p q lo hi : ℕ) (ls : List Link) → Between lo ls hi → (ps : List Party)
+pub rollbackOnlyBy-miss : (p q lo hi : ℕ) (ls : List Link) → Between lo ls hi → (ps : List Party)
     → ((e : ℕ) → originatorEnd p (look e ls) ≡ true → getD ps q freshParty .owned ≡ look e ls .tx → ⊥)
-    → getD (doomedBy p ls ps) q freshParty ≡ getD ps q freshParty
-unfolding doomedBy look
-doomedBy-miss p q lo hi [] h ps a = refl
-doomedBy-miss p q lo hi (l ∷ ls) h ps a =
+    → getD (rollbackOnlyBy p ls ps) q freshParty ≡ getD ps q freshParty
+unfolding rollbackOnlyBy look
+rollbackOnlyBy-miss p q lo hi [] h ps a = refl
+rollbackOnlyBy-miss p q lo hi (l ∷ ls) h ps a =
     let here = pick-true _ l (look (l .number) ls) (same-refl (l .number)) in
-    let k = doomedBy-step p q l ps (λ y. doom-miss (l .tx) q ps (λ r. a (l .number) (rw here y) (rw here r))) in
-    doomedBy-miss p q (l .number) hi ls (h .1) _ (λ e o r.
+    let k = rollbackOnlyBy-step p q l ps (λ y. rollbackOnlyIn-miss (l .tx) q ps (λ r. a (l .number) (rw here y) (rw here r))) in
+    rollbackOnlyBy-miss p q (l .number) hi ls (h .1) _ (λ e o r.
     let b = not-missing p e (l .number) hi ls (h .1) o in
     let n = pick-false _ l (look e ls) (same-ne (l .number) e (omega arith)) in
     a e (rw n o) (rw n (ap (λ (x : Party). x .owned) (sym k) ∙ r))) ∙ k

@@ -11,9 +11,9 @@ use Rattle.rules.specs.Transaction.{servedTx, txOf}
 use Rattle.rules.specs.Tx.{openOf, closeOf, beginOf, goOn, commitCode, commitOf, rollbackOf, infoOf, commitReturnOf, controlOf, timeoutOf}
 use Rattle.rules.specs.Services.{offersNow, advertiseOf, unadvertiseOf}
 use Rattle.rules.specs.Requests.{askLink, requestOf, connectOf, dispatched, dispatchOf, outcomeCode, fetched, fetchOf, cancelOf}
-use Rattle.rules.specs.Conversations.{tellsCut, tellsReturn, sendOn, sendOf, received, receiveOn, receiveOf, disconnectOf}
+use Rattle.rules.specs.Conversations.{tellsDisconnect, tellsReturn, sendOn, sendOf, received, receiveOn, receiveOf, disconnectOf}
 use Rattle.rules.specs.Return.{returnWith, returnOf, terminateOf}
-use Rattle.rules.specs.Step.{ruleOf, isKind, advanced, told, turnedDown, callOf, stepOf}
+use Rattle.rules.specs.Step.{ruleOf, isKind, advanced, answeredTo, turnedDown, callOf, stepOf}
 use Rattle.rules.specs.Refusals.{isRefusal, isEarly, isOutcome, Refused}
 use Rattle.rules.specs.declared.Call.{Call}
 use Rattle.rules.specs.declared.Monitor.{Monitor}
@@ -135,7 +135,7 @@ module _ (m : Monitor) (p : ℕ) where
     cancel-decided = asks (λ _. asks (λ _. does refl) (λ _. no inTransaction refl)) (λ _. no noSuchEnd refl)
 
     receive-decided : Decided m (receiveOf m p a)
-    unfolding receiveOf receiveOn received tellsCut tellsReturn isOutcome isRefusal isEarly
+    unfolding receiveOf receiveOn received tellsDisconnect tellsReturn isOutcome isRefusal isEarly
     receive-decided =
         asks (λ _. asks (λ _. asks (λ _. does refl) (λ _. asks (λ _. does refl)
         (λ _. asks (λ _. asks (λ _. asks (λ _. does refl) (λ _. does refl))
@@ -159,7 +159,7 @@ module _ (m : Monitor) (p : ℕ) where
       connect-decided = asks (λ _. link-decided _ (does refl)) (λ _. no badArgument refl)
 
       send-decided : Decided m (sendOf m p a b c)
-      unfolding sendOf sendOn tellsCut tellsReturn isOutcome isRefusal isEarly
+      unfolding sendOf sendOn tellsDisconnect tellsReturn isOutcome isRefusal isEarly
       send-decided =
           asks (λ _. asks (λ _. asks (λ _. asks (λ _. does refl) (λ _. asks (λ _. does refl)
           (λ _. asks (λ _. asks (λ _. does refl)
@@ -211,8 +211,8 @@ record Lawful (m : Monitor) (c : Call) (s : Stepped) : Type 0 where
   known : isRefusal (s .answer .code) || isOutcome (s .answer .code) ≡ true
   refused : isRefusal (s .answer .code) ≡ true → Refused m c s
 
-told-lawful : (m : Monitor) (c : Call) (r : Ruled) → Decided (advanced m (c .clock)) r → Lawful m c (told r (c .party))
-unfolding told txOf servedTx linkOf
+told-lawful : (m : Monitor) (c : Call) (r : Ruled) → Decided (advanced m (c .clock)) r → Lawful m c (answeredTo r (c .party))
+unfolding answeredTo txOf servedTx linkOf
 told-lawful m c r (does f) = record {
   known = rw (and-l (isOutcome (r .code)) _ f, or-true);
   refused = λ y. not-both y (carried-neither (r .code) f .0);

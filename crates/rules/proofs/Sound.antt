@@ -19,7 +19,7 @@ use Rattle.rules.specs.declared.Ruled.{Ruled}
 use Rattle.rules.proofs.Logic.{Nz, pick-true, pick-false, test, byTest, not-both, same-refl, same-true, same-ne, and-l, and-r, and-true, byNumber}
 use Rattle.rules.proofs.Fine.{noLink, look, Between, Shape, Fine}
 use Rattle.rules.proofs.Looks.{look-below, look-next, linkOf-look, look-linkOf}
-use Rattle.rules.proofs.History.Moves.{Like, Left, alike, gone, shut, back, Idle, Ends, Begins, Makes, Takes, Move, quiet, sends, grants, finishes, cancels, hangs, leaves, ends, begins, renews, makes, makesFree, takes}
+use Rattle.rules.proofs.History.Moves.{Like, Left, alike, gone, shut, back, Idle, Ends, Begins, Makes, Takes, Move, quiet, sends, grants, finishes, cancels, disconnects, leaves, ends, begins, renews, makes, makesFree, takes}
 use Rattle.rules.proofs.History.Left.{fades-works}
 use Rattle.rules.proofs.History.Tells.{Tell}
 use Rattle.rules.proofs.History.Walk.Moved.{Moved}
@@ -239,7 +239,7 @@ move-good c p n m n′ m′ h z g (sends k d s) = like-good g (s .idle) (s .like
 move-good c p n m n′ m′ h z g (grants k d s) = like-good g (s .idle) (s .like)
 move-good c p n m n′ m′ h z g (finishes k d f) = idle-good g (f .idle) (one-safe _ _ d (gone-safe (f .gone′)) (f .others)) (fades-works d (f .others) (λ w. not-both w (f .rests)))
 move-good c p n m n′ m′ h z g (cancels k d f) = idle-good g (f .idle) (one-safe _ _ d (left-safe (f .fade)) (f .others)) (fades-works d (f .others) (f .fadeWorks))
-move-good c p n m n′ m′ h z g (hangs k d f) = good-after g (one-safe _ _ d (left-safe (f .fade)) (f .others)) (λ q _. f .served′ q) (λ q _. fades-works d (f .others) (f .fadeWorks) _)
+move-good c p n m n′ m′ h z g (disconnects k d f) = good-after g (one-safe _ _ d (left-safe (f .fade)) (f .others)) (λ q _. f .served′ q) (λ q _. fades-works d (f .others) (f .fadeWorks) _)
 move-good c p n m n′ m′ h z g (leaves k bad l s) = good-after g (λ e. left-safe (l .less e)) (l .served′) (l .stays)
 move-good c p n m n′ m′ h z g (ends k e) = ends-good g p e
 move-good c p n m n′ m′ h z g (begins a b s x k) = begins-good g p (suc m) k

@@ -89,8 +89,8 @@ abbrev pub unreadFull : ℤ
 unreadFull = pos 32
 
 -- ---- accepted by the XATMI kinds
-abbrev pub accepted : ℤ
-accepted = pos 0
+abbrev pub tpAccepted : ℤ
+tpAccepted = pos 0
 
 -- TPEEVENT: an event came, which the answer names
 abbrev pub tpeEvent : ℤ

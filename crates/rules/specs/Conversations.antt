@@ -5,9 +5,9 @@ use mathlib.Core.Bool.{Bool, not, _&&_, _||_}
 use lib.ListN.{getD}
 use lib.Dec.{eqb, ltb, leb}
 use Rattle.rules.specs.Choice.{pick, same}
-use Rattle.rules.specs.Codes.{badArgument, notAllowedNow, noSuchEnd, timedOut, nothingUnread, unreadFull, accepted, tpeEvent}
-use Rattle.rules.specs.Record.{isConversation, isWorking, isReturned, isDisconnected, isNotified, ownEnd, linkOf, cutOff, notified, withSent, withoutOldest, changed, removed, valued, ask}
-use Rattle.rules.specs.Transaction.{expired, doom}
+use Rattle.rules.specs.Codes.{badArgument, notAllowedNow, noSuchEnd, timedOut, nothingUnread, unreadFull, tpAccepted, tpeEvent}
+use Rattle.rules.specs.Record.{isConversation, isWorking, isReturned, isDisconnected, isNotified, ownEnd, linkOf, disconnectedLink, notified, withSent, withoutOldest, changed, removed, valued, ask}
+use Rattle.rules.specs.Transaction.{expired, rollbackOnlyTx}
 use Rattle.rules.specs.declared.Ruled.{Ruled}
 use Rattle.rules.specs.declared.Link.{Link}
 use Rattle.rules.specs.declared.Monitor.{Monitor}
@@ -26,8 +26,8 @@ unfoldable pub anyEnd : ℕ → Link → Bool
 anyEnd p l = originatorEnd p l || serverEnd p l
 
 -- "If cut, the server gets .."
-unfoldable pub hearsCut : ℕ → Link → Bool
-hearsCut p l = not (originatorEnd p l) && isDisconnected l
+unfoldable pub hearsDisconnect : ℕ → Link → Bool
+hearsDisconnect p l = not (originatorEnd p l) && isDisconnected l
 
 -- "If returned and nothing unread .. the originator gets .."
 unfoldable pub hearsReturn : ℕ → Link → Bool
@@ -37,14 +37,14 @@ hearsReturn p l = originatorEnd p l && (isReturned l && eqb (l .filled) 0)
 unfoldable pub endSide : ℕ → Link → ℕ
 endSide p l = pick (originatorEnd p l) 0 1
 
--- is party p's end the holder
-unfoldable pub holds : ℕ → Link → Bool
-holds p l = same (l .sender) (endSide p l)
+-- is party p's end the sender (document 01: the holder)
+unfoldable pub isSender : ℕ → Link → Bool
+isSender p l = same (l .sender) (endSide p l)
 
--- ---- what the end's party is told
+-- ---- what the end's party learns
 -- "29, event 1, and is told"
-unfoldable pub tellsCut : Monitor → ℕ → Link → Ruled
-tellsCut m a l = record { monitor = changed m a (notified l); code = tpeEvent; value = 0; event = 1; token = 0; service = 0 }
+unfoldable pub tellsDisconnect : Monitor → ℕ → Link → Ruled
+tellsDisconnect m a l = record { monitor = changed m a (notified l); code = tpeEvent; value = 0; event = 1; token = 0; service = 0 }
 
 -- "29, event the outcome, and the ending token; the link goes"
 unfoldable pub tellsReturn : Monitor → ℕ → Link → Ruled
@@ -56,13 +56,13 @@ sendOn m p a b c l =
     ask m (anyEnd p l) noSuchEnd
     (ask m (leb b 1) badArgument
     (ask m (not (expired m (l .tx))) timedOut
-    (pick (hearsCut p l) (tellsCut m a l)
+    (pick (hearsDisconnect p l) (tellsDisconnect m a l)
     (pick (hearsReturn p l && not (eqb (l .outcome) 8)) (tellsReturn m a l)
-    (ask m (holds p l && eqb (l .granting) 0) notAllowedNow
+    (ask m (isSender p l && eqb (l .granting) 0) notAllowedNow
     (ask m (ltb (l .filled) 4) unreadFull
     (valued (changed m a (withSent l b c)) 0)))))))
 
--- 17 send a, b = 1 hands over, c
+-- 17 send a, b = 1 grants (document 01: hands over), c
 unfoldable pub sendOf : Monitor → ℕ → ℕ → ℕ → ℕ → Ruled
 sendOf m p a b c = sendOn m p a b c (linkOf m a)
 
@@ -76,15 +76,15 @@ unfoldable pub received : Monitor → ℕ → ℕ → Link → Ruled
 received m p a l =
     pick (carriesGrant l)
     (record { monitor = changed m a (withoutOldest l (endSide p l) 0); code = tpeEvent; value = 0; event = 32; token = getD (l .unread) 0 0; service = 0 })
-    (record { monitor = changed m a (withoutOldest l (l .sender) (l .granting)); code = accepted; value = 0; event = 0; token = getD (l .unread) 0 0; service = 0 })
+    (record { monitor = changed m a (withoutOldest l (l .sender) (l .granting)); code = tpAccepted; value = 0; event = 0; token = getD (l .unread) 0 0; service = 0 })
 
 unfoldable pub receiveOn : Monitor → ℕ → ℕ → Link → Ruled
 receiveOn m p a l =
     ask m (anyEnd p l) noSuchEnd
     (ask m (not (expired m (l .tx))) timedOut
-    (pick (hearsCut p l) (tellsCut m a l)
+    (pick (hearsDisconnect p l) (tellsDisconnect m a l)
     (pick (hearsReturn p l) (tellsReturn m a l)
-    (ask m (not (holds p l)) notAllowedNow
+    (ask m (not (isSender p l)) notAllowedNow
     (ask m (ltb 0 (l .filled)) nothingUnread
     (received m p a l))))))
 
@@ -94,11 +94,11 @@ receiveOf m p a = receiveOn m p a (linkOf m a)
 
 -- ---- 19 disconnect
 -- "the link goes if waiting or returned, else is cut"
-unfoldable pub hungUp : Monitor → ℕ → Link → Monitor
-hungUp m a l = pick (isWorking l) (changed m a (cutOff l)) (removed m a)
+unfoldable pub disconnectedAt : Monitor → ℕ → Link → Monitor
+disconnectedAt m a l = pick (isWorking l) (changed m a (disconnectedLink l)) (removed m a)
 
--- 19 disconnect a: an open conversation end of the originator's? 24. Its live T is doomed
+-- 19 disconnect a: an open conversation end of the originator's? 24. "Its live T is doomed"
 unfoldable pub disconnectOf : Monitor → ℕ → ℕ → Ruled
 disconnectOf m p a =
     ask m (originatorEnd p (linkOf m a)) noSuchEnd
-    (valued (hungUp (doom m (linkOf m a .tx)) a (linkOf m a)) 0)
+    (valued (disconnectedAt (rollbackOnlyTx m (linkOf m a .tx)) a (linkOf m a)) 0)

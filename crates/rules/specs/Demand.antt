@@ -22,11 +22,11 @@ unfoldable pub thenLent : List ℕ → Listed → List Event → List Event
 thenLent cs l h = cond (sameCode (pos 17) (l .code) || sameCode (pos 16) (l .code)) h (thenList cs (l .places) h)
 
 -- the history h, and then the entries, which the rules answer from the record m on
-unfoldable pub answered : Monitor → List Event → List Entry → List Event
-answered m h [] = h
-answered m h (single c ∷ es) = answered (stepOf m c .monitor) (record { call = c; answer = stepOf m c .answer } ∷ h) es
-answered m h (lent cs out ∷ es) = answered (listOf m cs out .monitor) (thenLent cs (listOf m cs out) h) es
+unfoldable pub thenEntries : Monitor → List Event → List Entry → List Event
+thenEntries m h [] = h
+thenEntries m h (single c ∷ es) = thenEntries (stepOf m c .monitor) (record { call = c; answer = stepOf m c .answer } ∷ h) es
+thenEntries m h (lent cs out ∷ es) = thenEntries (listOf m cs out .monitor) (thenLent cs (listOf m cs out) h) es
 
 -- "Demand 3 is a single claim about a whole list"
 unfoldable pub Demand3 : Type 0
-Demand3 = (es : List Entry) → holds (answered freshMonitor [] es) ≡ true
+Demand3 = (es : List Entry) → holds (thenEntries freshMonitor [] es) ≡ true

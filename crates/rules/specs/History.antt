@@ -99,8 +99,8 @@ startedBy p [] = false
 startedBy p (e ∷ h) = by p e && (ofKind 3 e || (ofKind 4 e || ofKind 5 e))
 
 -- "T's owner is the party whose 3, 4 or 5 is the first call with an answer ending in T; that call is T's start."
-unfoldable pub isOwner : List Event → ℕ → ℕ → Bool
-isOwner h t p = startedBy p (upToStart t h)
+unfoldable pub shownOwner : List Event → ℕ → ℕ → Bool
+shownOwner h t p = startedBy p (upToStart t h)
 
 -- what a party's "latest earlier answer past question 21 ends in", 0 if there is none
 unfoldable pub latestTx : List Event → ℕ → ℕ
@@ -114,7 +114,7 @@ txAt h e = latestTx h (e .call .party)
 -- "A commit by T's owner is that party's 4, itself past question 21, where its latest earlier answer past question 21
 -- ends in T"; "T is not 0"
 unfoldable pub isOwnersCommit : List Event → Event → Bool
-isOwnersCommit h e = ofKind 4 e && (past21 e && (not (eqb (txAt h e) 0) && isOwner h (txAt h e) (e .call .party)))
+isOwnersCommit h e = ofKind 4 e && (past21 e && (not (eqb (txAt h e) 0) && shownOwner h (txAt h e) (e .call .party)))
 
 -- "committed is code 0 or −100"
 unfoldable pub committed : Event → Bool
@@ -157,17 +157,17 @@ greatestClock [] = 0
 greatestClock (e ∷ h) = cond (past21 e) (max (greatestClock h) (e .call .clock)) (greatestClock h)
 
 -- "a of its last accepted 9 before that; 0 if there is none, or if an accepted 2 or 21 of its own came in between"
-unfoldable pub timeoutOf : List Event → ℕ → ℕ
-timeoutOf [] p = 0
-timeoutOf (e ∷ h) p =
+unfoldable pub shownTimeout : List Event → ℕ → ℕ
+shownTimeout [] p = 0
+shownTimeout (e ∷ h) p =
     cond (by p e && (accepted e && ofKind 9 e)) (e .call .a)
     (cond (by p e && (accepted e && (ofKind 2 e || ofKind 21 e))) 0
-    (timeoutOf h p))
+    (shownTimeout h p))
 
 -- "the owner's timeout at T's start", of a history that ends with that start
 unfoldable pub timeoutAtStart : List Event → ℕ
 timeoutAtStart [] = 0
-timeoutAtStart (e ∷ h) = timeoutOf h (e .call .party)
+timeoutAtStart (e ∷ h) = shownTimeout h (e .call .party)
 
 -- when a deadline comes: a timeout, not 0, after a clock
 unfoldable pub due : ℕ → ℕ → ℕ
@@ -220,15 +220,15 @@ holds [] = true
 holds (e ∷ h) = senderRule h e && (commitRule h e && (aloneRule h e && holds h))
 
 -- ---- calls and answers as lists of numbers, six to each
-unfoldable pub readCall : List ℕ → Call
-readCall cs = record { clock = getD cs 0 0; party = getD cs 1 0; kind = getD cs 2 0; a = getD cs 3 0; b = getD cs 4 0; c = getD cs 5 0 }
+unfoldable pub firstCall : List ℕ → Call
+firstCall cs = record { clock = getD cs 0 0; party = getD cs 1 0; kind = getD cs 2 0; a = getD cs 3 0; b = getD cs 4 0; c = getD cs 5 0 }
 
 abbrev pub unsigned : ℤ → ℕ
 unsigned (pos n) = n
 unsigned (negsuc n) = 0
 
-unfoldable pub readAnswer : List ℤ → Answer
-readAnswer out =
+unfoldable pub firstAnswer : List ℤ → Answer
+firstAnswer out =
     record {
       code = getD out 0 (pos 0);
       value = unsigned (getD out 1 (pos 0));
@@ -241,7 +241,7 @@ readAnswer out =
 -- the history h, and then n calls with their answers
 unfoldable pub thenCalls : ℕ → List ℕ → List ℤ → List Event → List Event
 thenCalls zero cs out h = h
-thenCalls (suc n) cs out h = thenCalls n (drop 6 cs) (drop 6 out) (record { call = readCall cs; answer = readAnswer out } ∷ h)
+thenCalls (suc n) cs out h = thenCalls n (drop 6 cs) (drop 6 out) (record { call = firstCall cs; answer = firstAnswer out } ∷ h)
 
 -- "a lent list counts as its calls"
 unfoldable pub thenList : List ℕ → List ℤ → List Event → List Event

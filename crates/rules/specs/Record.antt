@@ -7,7 +7,7 @@ use lib.ListN.{length, set, getD, take, drop, replicate}
 use lib.Dec.{eqb, ltb}
 use lib.IntN.{ℤ}
 use Rattle.rules.specs.Choice.{pick, same}
-use Rattle.rules.specs.Codes.{accepted}
+use Rattle.rules.specs.Codes.{tpAccepted}
 use Rattle.rules.specs.Lists.{firstOf, collect}
 use Rattle.rules.specs.declared.Ruled.{Ruled}
 use Rattle.rules.specs.declared.Party.{Party}
@@ -57,15 +57,15 @@ isWorking l = eqb (l .state) 1
 abbrev pub isReturned : Link → Bool
 isReturned l = eqb (l .state) 2
 
--- cut, and its server not yet told
+-- disconnected, and its server not yet notified (document 01: cut, not told)
 abbrev pub isDisconnected : Link → Bool
 isDisconnected l = eqb (l .disconnected) 1
 
--- cut, and its server told
+-- disconnected, and its server notified (document 01: told)
 abbrev pub isNotified : Link → Bool
 isNotified l = eqb (l .disconnected) 2
 
--- the free holder is the server: it may send, and is not handing over
+-- the server is the sender, and no grant is under way (document 01: it is the free holder)
 abbrev pub isServerFree : Link → Bool
 isServerFree l = eqb (l .sender) 1 && eqb (l .granting) 0
 
@@ -138,7 +138,7 @@ owning q t d = withWork q t d (q .rollbackonly) (q .served)
 abbrev pub owningNone : Party → Party
 owningNone q = withWork q 0 0 0 (q .served)
 
--- its transaction is doomed: it can only be rolled back
+-- its transaction can only be rolled back (document 01: doomed)
 abbrev pub rollbackOnly : Party → Party
 rollbackOnly q = withWork q (q .owned) (q .deadline) 1 (q .served)
 
@@ -155,11 +155,11 @@ closed l = withEnds l 0 (l .disconnected)
 abbrev pub dropped : Link → Link
 dropped l = withUnread l (l .sender) 0 (replicate 4 0) 0
 
--- cut: "originator's end closed, unread dropped"
-abbrev pub cutOff : Link → Link
-cutOff l = withEnds (dropped l) 0 1
+-- disconnected (document 01: cut): "originator's end closed, unread dropped"
+abbrev pub disconnectedLink : Link → Link
+disconnectedLink l = withEnds (dropped l) 0 1
 
--- its server is told that it was cut
+-- its server was notified (document 01: told)
 abbrev pub notified : Link → Link
 notified l = withEnds l (l .attached) 2
 
@@ -234,7 +234,7 @@ abbrev pub ruled : Monitor → ℤ → Ruled
 ruled m code = record { monitor = m; code = code; value = 0; event = 0; token = 0; service = 0 }
 
 abbrev pub valued : Monitor → ℕ → Ruled
-valued m v = record { monitor = m; code = accepted; value = v; event = 0; token = 0; service = 0 }
+valued m v = record { monitor = m; code = tpAccepted; value = v; event = 0; token = 0; service = 0 }
 
 -- a question of a rule: a "no" gives the number, and changes nothing
 abbrev pub ask : Monitor → Bool → ℤ → Ruled → Ruled

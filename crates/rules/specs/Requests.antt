@@ -6,7 +6,7 @@ use lib.ListN.{getD}
 use lib.Dec.{eqb, ltb, leb}
 use lib.IntN.{ℤ}
 use Rattle.rules.specs.Choice.{pick}
-use Rattle.rules.specs.Codes.{badArgument, notAllowedNow, noSuchEnd, notOffered, noRoomLeft, inTransaction, timedOut, nothingWaiting, noReplyYet, accepted, tpeSvcFail, tpeSvcErr}
+use Rattle.rules.specs.Codes.{badArgument, notAllowedNow, noSuchEnd, notOffered, noRoomLeft, inTransaction, timedOut, nothingWaiting, noReplyYet, tpAccepted, tpeSvcFail, tpeSvcErr}
 use Rattle.rules.specs.Lists.{firstOf, anyOf}
 use Rattle.rules.specs.Record.{freshLink, isOpened, isRequest, isWaiting, isReturned, ownEnd, party, live, linkOf, serving, closed, newLink, working, withParty, replaced, changed, removed, added, valued, ask}
 use Rattle.rules.specs.Transaction.{txOf, ended, expired}
@@ -87,7 +87,7 @@ unfoldable pub dispatched : Monitor → ℕ → ℕ → Link → Ruled
 dispatched m p i l =
     record {
       monitor = replaced (withParty m p (serving (party m p) (l .number))) i (working l p);
-      code = accepted;
+      code = tpAccepted;
       value = l .number;
       event = dispatchEvent l;
       token = l .first;
@@ -111,7 +111,7 @@ requestEnd p l = isRequest l && ownEnd p l
 
 -- "Outcome 8 gives 0, 4 gives 30, 2 gives 31"
 unfoldable pub outcomeCode : ℕ → ℤ
-outcomeCode o = pick (eqb o 8) accepted (pick (eqb o 4) tpeSvcFail tpeSvcErr)
+outcomeCode o = pick (eqb o 8) tpAccepted (pick (eqb o 4) tpeSvcFail tpeSvcErr)
 
 -- the reply of link a is taken, and the link goes
 unfoldable pub fetched : Monitor → ℕ → Link → Ruled

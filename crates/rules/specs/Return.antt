@@ -7,8 +7,8 @@ use lib.Dec.{eqb}
 use Rattle.rules.specs.Choice.{pick}
 use Rattle.rules.specs.Codes.{badArgument, notAllowedNow}
 use Rattle.rules.specs.Lists.{anyOf, collect}
-use Rattle.rules.specs.Record.{freshParty, isConversation, isAttached, isWorking, isReturned, isServerFree, ownEnd, party, live, linkOf, serving, closed, dropped, cutOff, returned, withParties, withParty, rebuilt, changed, removed, valued, ask}
-use Rattle.rules.specs.Transaction.{doomedIn, doom, endTx}
+use Rattle.rules.specs.Record.{freshParty, isConversation, isAttached, isWorking, isReturned, isServerFree, ownEnd, party, live, linkOf, serving, closed, dropped, disconnectedLink, returned, withParties, withParty, rebuilt, changed, removed, valued, ask}
+use Rattle.rules.specs.Transaction.{rollbackOnlyIn, rollbackOnlyTx, endTx}
 use Rattle.rules.specs.Conversations.{originatorEnd}
 use Rattle.rules.specs.declared.Ruled.{Ruled}
 use Rattle.rules.specs.declared.Party.{Party}
@@ -41,25 +41,25 @@ unfoldable pub closeEnd : ℕ → Link → List Link
 closeEnd p l =
     pick (ownEnd p l)
     (pick (isConversation l)
-    (pick (isWorking l) (cutOff l ∷ []) [])
+    (pick (isWorking l) (disconnectedLink l ∷ []) [])
     (pick (isReturned l) [] (closed l ∷ [])))
     (l ∷ [])
 
--- the parties as each of p's open conversations dooms its live transaction
-unfoldable pub doomedBy : ℕ → List Link → List Party → List Party
-doomedBy p [] ps = ps
-doomedBy p (l ∷ ls) ps = doomedBy p ls (pick (originatorEnd p l) (doomedIn (l .tx) ps) ps)
+-- the parties as each of p's open conversations makes its live transaction rollback-only
+unfoldable pub rollbackOnlyBy : ℕ → List Link → List Party → List Party
+rollbackOnlyBy p [] ps = ps
+rollbackOnlyBy p (l ∷ ls) ps = rollbackOnlyBy p ls (pick (originatorEnd p l) (rollbackOnlyIn (l .tx) ps) ps)
 
 unfoldable pub closeOwn : Monitor → ℕ → Monitor
-closeOwn m p = rebuilt (withParties m (doomedBy p (live m) (m .parties))) (collect (closeEnd p) (live m))
+closeOwn m p = rebuilt (withParties m (rollbackOnlyBy p (live m) (m .parties))) (collect (closeEnd p) (live m))
 
 -- "its own transaction ends without a new one"
 unfoldable pub endOwn : Monitor → ℕ → Monitor
 endOwn m p = pick (eqb (party m p .owned) 0) m (endTx m p)
 
 -- "Outcome 4 or 2 dooms the served link's live T, fetched or not."
-unfoldable pub doomServed : ℕ → ℕ → Monitor → Monitor
-doomServed o t m = pick (eqb o 8) m (doom m t)
+unfoldable pub rollbackOnlyServed : ℕ → ℕ → Monitor → Monitor
+rollbackOnlyServed o t m = pick (eqb o 8) m (rollbackOnlyTx m t)
 
 -- "The party serves none"
 unfoldable pub servesNone : Monitor → ℕ → Monitor
@@ -76,7 +76,7 @@ handBack m d o e = pick (isAttached (linkOf m d)) (changed m d (returned (linkOf
 -- party p, which serves the link d, leaves it with the outcome o and the ending token e: the steps in the text's order
 unfoldable pub leave : Monitor → ℕ → ℕ → ℕ → ℕ → Monitor
 leave m p d o e =
-    handBack (servesNone (doomServed o (linkOf m d .tx) (endOwn (closeOwn (changed m d (unreadAfter o (linkOf m d))) p) p)) p) d o e
+    handBack (servesNone (rollbackOnlyServed o (linkOf m d .tx) (endOwn (closeOwn (changed m d (unreadAfter o (linkOf m d))) p) p)) p) d o e
 
 -- with the outcome o, which is the answer's value
 unfoldable pub returnWith : Monitor → ℕ → ℕ → ℕ → Ruled

@@ -60,8 +60,8 @@ abbrev pub answered : Ruled → ℕ → Stepped
 answered r t = record { monitor = r .monitor; answer = record { code = r .code; value = r .value; event = r .event; token = r .token; service = r .service; tx = t } }
 
 -- what a rule gives, with the caller's T afterwards
-unfoldable pub told : Ruled → ℕ → Stepped
-told r p = answered r (txOf (r .monitor) p)
+unfoldable pub answeredTo : Ruled → ℕ → Stepped
+answeredTo r p = answered r (txOf (r .monitor) p)
 
 -- questions 19, 20 and 21: "For these the last field is 0 and the record is unchanged"
 unfoldable pub turnedDown : Monitor → ℤ → Stepped
@@ -72,7 +72,7 @@ unfoldable pub callOf : Monitor → Call → Stepped
 callOf m c =
     pick (isKind (c .kind))
     (pick (leb (c .party) 15)
-    (told (ruleOf (advanced m (c .clock)) (c .party) (c .kind) (c .a) (c .b) (c .c)) (c .party))
+    (answeredTo (ruleOf (advanced m (c .clock)) (c .party) (c .kind) (c .a) (c .b) (c .c)) (c .party))
     (turnedDown m unknownParty))
     (turnedDown m unknownKind)
 

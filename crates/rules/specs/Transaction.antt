@@ -1,4 +1,4 @@
--- Transactions: a party's T, its owner, ended, expired, live, doomed; how one begins and ends.
+-- Transactions: a party's T, its owner, ended, expired, live, rollback-only; how one begins and ends.
 -- Assumes nothing.
 use Prim.Native.Nat.{ℕ, _+_}
 use mathlib.Core.List.{List, [], _∷_}
@@ -7,7 +7,7 @@ use lib.ListN.{set, getD}
 use lib.Dec.{eqb, ltb, leb}
 use Rattle.rules.specs.Choice.{pick, same}
 use Rattle.rules.specs.Lists.{firstOf, anyOf, collect}
-use Rattle.rules.specs.Record.{freshParty, isRollbackOnly, isRequest, isAttached, isWorking, isNotified, owns, party, live, linkOf, owning, owningNone, rollbackOnly, closed, cutOff, withLastTx, withParties, withParty, rebuilt}
+use Rattle.rules.specs.Record.{freshParty, isRollbackOnly, isRequest, isAttached, isWorking, isNotified, owns, party, live, linkOf, owning, owningNone, rollbackOnly, closed, disconnectedLink, withLastTx, withParties, withParty, rebuilt}
 use Rattle.rules.specs.declared.Party.{Party}
 use Rattle.rules.specs.declared.Link.{Link}
 use Rattle.rules.specs.declared.Monitor.{Monitor}
@@ -43,13 +43,13 @@ expired m t = pick (eqb t 0) false (late (m .clock) (ownerParty (m .parties) t))
 unfoldable pub isOwner : Monitor → ℕ → Bool
 isOwner m p = not (eqb (party m p .owned) 0) && same (ownerOf (m .parties) (party m p .owned)) p
 
--- ---- doomed: a transaction that can only be rolled back
--- the parties as t, if it is live, is doomed by its owner's mark
-unfoldable pub doomedIn : ℕ → List Party → List Party
-doomedIn t ps = pick (eqb t 0) ps (set ps (ownerOf ps t) (rollbackOnly (ownerParty ps t)))
+-- ---- rollback-only (document 01: doomed)
+-- the parties as t, if it is live, becomes rollback-only by its owner's mark
+unfoldable pub rollbackOnlyIn : ℕ → List Party → List Party
+rollbackOnlyIn t ps = pick (eqb t 0) ps (set ps (ownerOf ps t) (rollbackOnly (ownerParty ps t)))
 
-abbrev pub doom : Monitor → ℕ → Monitor
-doom m t = withParties m (doomedIn t (m .parties))
+abbrev pub rollbackOnlyTx : Monitor → ℕ → Monitor
+rollbackOnlyTx m t = withParties m (rollbackOnlyIn t (m .parties))
 
 -- ---- a transaction begins
 -- "Deadline is clock + timeout, or 0."
@@ -67,7 +67,7 @@ txLeft m = ltb (m .lasttx) 60000
 -- ---- a transaction ends
 -- "a working request's originator end closes, a working conversation not yet told is cut"
 unfoldable pub orphaned : Link → Link
-orphaned l = pick (isRequest l) (closed l) (pick (isNotified l) l (cutOff l))
+orphaned l = pick (isRequest l) (closed l) (pick (isNotified l) l (disconnectedLink l))
 
 -- what is left of a link as t ends: "T's waiting and returned links go"
 unfoldable pub endOf : ℕ → Link → List Link

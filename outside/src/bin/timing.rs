@@ -34,7 +34,9 @@ fn mixed(calls: usize) -> Calls {
 /// Random kinds and arguments that make no link.
 fn empty(calls: usize) -> Calls {
     let mut rng = Rng::new(2);
-    let kinds = [1, 2, 3, 4, 5, 6, 7, 8, 9, 10, 11, 14, 15, 16, 17, 18, 19, 20, 21];
+    let kinds = [
+        1, 2, 3, 4, 5, 6, 7, 8, 9, 10, 11, 14, 15, 16, 17, 18, 19, 20, 21,
+    ];
     (0..calls)
         .map(|n| {
             let kind = rng.pick(&kinds);
@@ -298,20 +300,30 @@ fn main() {
         row("soundness alone", load.name, soundness(load));
     }
     for load in &loads {
-        row("a call of a drill file in memory", load.name, from_memory(load));
+        row(
+            "a call of a drill file in memory",
+            load.name,
+            from_memory(load),
+        );
     }
     let (times, memory) = program(400_000);
     row("a call of the program, 400,000", "mixed", times);
     let (times, more) = program(4_000_000);
     row("a call of the program, 4,000,000", "mixed", times);
-    println!("| the program's memory, KiB | 400,000 and 4,000,000 calls | {memory} and {more} | | |");
+    println!(
+        "| the program's memory, KiB | 400,000 and 4,000,000 calls | {memory} and {more} | | |"
+    );
     for (calls, rounds) in [(100_000, 60), (10_000_000, 5)] {
         let load = Load {
             name: "32 links",
             before: full_before(),
             calls: full(calls),
         };
-        row(&format!("a call of a list of {calls}"), load.name, list(&load, rounds));
+        row(
+            &format!("a call of a list of {calls}"),
+            load.name,
+            list(&load, rounds),
+        );
     }
     assert!(after(&loads[2].before).link_count == LINKS);
 }

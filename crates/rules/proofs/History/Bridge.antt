@@ -12,7 +12,7 @@ use Rattle.rules.specs.Choice.{pick, same}
 use Rattle.rules.specs.declared.Call.{Call}
 use Rattle.rules.specs.declared.Link.{Link}
 use Rattle.rules.specs.declared.Party.{Party}
-use Rattle.rules.specs.History.{Event, some, ofKind, by, answeredBy, withValue, withEvent, accepted, linkOn, on, endsIn, upToStart, startedBy, isOwner, sameCode, makes, isLinkOf, serves, failedEnd, disconnect, finishes}
+use Rattle.rules.specs.History.{Event, some, ofKind, by, answeredBy, withValue, withEvent, accepted, linkOn, on, endsIn, upToStart, startedBy, shownOwner, sameCode, makes, isLinkOf, serves, failedEnd, disconnect, finishes}
 use Rattle.rules.proofs.Logic.{test, same-refl, same-ne, and-r, and-false, or-true, or-false, pick-yes, pick-no, Nz, and-yes, and-assoc, and-comm, cond-same, cond-of, cond-and, cond-not}
 use Rattle.rules.proofs.Codes.{of-code}
 use Rattle.rules.proofs.History.Tells.{Tell, nothing, sent, given, made, taken, finished, disconnected, left, tellOf, endingEvent, Valueless, canStart}
@@ -229,8 +229,8 @@ module _ (n : ℕ) (h : List Event) (e : Event) (t : Tell) (bounds : Bounds n h)
       now : ofKind 19 e && (accepted e && isLinkOf (e ∷ h) u (linkOn e)) ≡ disconnectsNow t (λ d. (isMade t d && same (e .answer .tx) u) || isLinkOf h u d)
       now = disc-tells e (isLinkOf (e ∷ h) u) ∙ rw (tells, fun-ext (λ d. link-next d u z))
 
-  owner-next : (u q : ℕ) → isOwner (e ∷ h) u q ≡ pick (some (endsIn u) h) (isOwner h u q) ((same (e .answer .tx) u && canStart (e .call)) && same (e .call .party) q)
-  unfolding isOwner upToStart startedBy endsIn by ofKind canStart same
+  owner-next : (u q : ℕ) → shownOwner (e ∷ h) u q ≡ pick (some (endsIn u) h) (shownOwner h u q) ((same (e .answer .tx) u && canStart (e .call)) && same (e .call .party) q)
+  unfolding shownOwner upToStart startedBy endsIn by ofKind canStart same
   owner-next u q = test (some (endsIn u) h)
       (λ y. rw (y, pick-yes))
       (λ n. rw (n, pick-no) (test (eqb (e .answer .tx) u) (λ y. rw y (and-comm (by q e) (canStart (e .call)))) (λ n. rw n)))
@@ -262,7 +262,7 @@ module _ {c : Call} {p n m : ℕ} {P : ℕ → Party} {L : ℕ → Link} {n′ m
   move-grows (Moves.grants k _ _) = kept-grows k
   move-grows (Moves.finishes k _ _) = kept-grows k
   move-grows (Moves.cancels k _ _) = kept-grows k
-  move-grows (Moves.hangs k _ _) = kept-grows k
+  move-grows (Moves.disconnects k _ _) = kept-grows k
   move-grows (Moves.leaves k _ _ _) = kept-grows k
   move-grows (Moves.ends k _) = kept-grows k
   move-grows (Moves.begins a b _ _ _) = (omega arith, omega arith)
@@ -278,7 +278,7 @@ module _ {c : Call} {p n m : ℕ} {P : ℕ → Party} {L : ℕ → Link} {n′ m
   move-above (Moves.grants _ _ _) = tt
   move-above (Moves.finishes _ _ _) = tt
   move-above (Moves.cancels _ _ _) = tt
-  move-above (Moves.hangs _ _ _) = tt
+  move-above (Moves.disconnects _ _ _) = tt
   move-above (Moves.leaves _ _ _ _) = tt
   move-above (Moves.ends _ _) = tt
   move-above (Moves.begins _ _ _ _ _) = tt
@@ -288,7 +288,7 @@ module _ {c : Call} {p n m : ℕ} {P : ℕ → Party} {L : ℕ → Link} {n′ m
 
   pub move-told : {t : Tell} {v : Shows} → World n m P L v → Move c p n m P L n′ m′ P′ L′ t → ToldUpTo n t
   move-told w (Moves.takes _ d x) = w .upper d (x .there)
-  move-told w (Moves.hangs _ d x) = w .upper d (x .there)
+  move-told w (Moves.disconnects _ d x) = w .upper d (x .there)
   move-told w (Moves.quiet _ _ _ _) = tt
   move-told w (Moves.sends _ _ _) = tt
   move-told w (Moves.grants _ _ _) = tt

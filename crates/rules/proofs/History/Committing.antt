@@ -11,7 +11,7 @@ use Rattle.rules.specs.Record.{isOpened, isChained, party, ruled}
 use Rattle.rules.specs.Transaction.{txOf, isOwner, endTx, canCommit}
 use Rattle.rules.specs.States.{stateOf, isBlank, nextOf}
 use Rattle.rules.specs.Tx.{goOn, commitCode, commitOf}
-use Rattle.rules.specs.Step.{told}
+use Rattle.rules.specs.Step.{answeredTo}
 use Rattle.rules.specs.History.{answeredBy, sameCode, committed}
 use Rattle.rules.specs.declared.Call.{Call}
 use Rattle.rules.specs.declared.Monitor.{Monitor}
@@ -24,7 +24,7 @@ abbrev isCommitted : ℤ → Bool
 isCommitted z = sameCode (pos 0) z || sameCode (negsuc 99) z
 
 committed-code : (c : Call) (r : Ruled) → committed (eventOf c r) ≡ isCommitted (r .code)
-unfolding committed answeredBy eventOf told
+unfolding committed answeredBy eventOf answeredTo
 committed-code c r = refl
 
 plain-code : (b : Bool) → isCommitted (commitCode b) ≡ b

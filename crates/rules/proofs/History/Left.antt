@@ -77,13 +77,13 @@ left-working (gone e) z = not-both (rw e at z) refl
 left-working (shut e) z = (rw (e .state′) at z, e .number′, e .server′, e .tx′)
 left-working (back e) z = not-both (rw (e .state′) at z) refl
 
--- a cut one has the originator's end closed
-pub left-cut : {l l′ : Link} → Left l l′ → (isWhole l ≡ false → isAttached l ≡ false) → isWhole l′ ≡ false → isAttached l′ ≡ false
+-- a disconnected one has the originator's end closed
+pub left-disconnected : {l l′ : Link} → Left l l′ → (isWhole l ≡ false → isAttached l ≡ false) → isWhole l′ ≡ false → isAttached l′ ≡ false
 unfolding noLink
-left-cut (alike e s) f z = rw (e .attached′) (f (rw (e .whole′) at z))
-left-cut (gone e) f z = rw e
-left-cut (shut e) f z = e .closed′
-left-cut (back e) f z = rw (e .attached′) (f (rw (e .whole′) at z))
+left-disconnected (alike e s) f z = rw (e .attached′) (f (rw (e .whole′) at z))
+left-disconnected (gone e) f z = rw e
+left-disconnected (shut e) f z = e .closed′
+left-disconnected (back e) f z = rw (e .attached′) (f (rw (e .whole′) at z))
 
 -- a returned one has an outcome
 pub left-ends : {l l′ : Link} → Left l l′ → (isReturned l ≡ true → isEnding (l .outcome) ≡ true) → isReturned l′ ≡ true → isEnding (l′ .outcome) ≡ true

@@ -11,7 +11,7 @@ use Rattle.rules.specs.declared.Party.{Party}
 use Rattle.rules.proofs.Logic.{Nz, same-true, test, above-nz, zero-nz}
 use Rattle.rules.proofs.Fine.{txP}
 use Rattle.rules.proofs.History.Moves.{Left}
-use Rattle.rules.proofs.History.Left.{left-tx, left-nought, left-low, left-number, left-open, left-live, left-working, left-cut, left-ends}
+use Rattle.rules.proofs.History.Left.{left-tx, left-nought, left-low, left-number, left-open, left-live, left-working, left-disconnected, left-ends}
 use Rattle.rules.proofs.History.Shows.{Shows}
 use Rattle.rules.proofs.History.World.{World}
 
@@ -29,7 +29,7 @@ module _ (n m : ℕ) (P : ℕ → Party) (L : ℕ → Link) (v : Shows) (P′ : 
     pub serve′ : (q : ℕ) (f : ℕ → Bool) → v′ .serves q f ≡ not (same (P′ q .served) 0) && f (P′ q .served)
     pub stays : (q : ℕ) → Nz (P′ q .served) → isWorking (L′ (P q .served)) ≡ true
     pub clean′ : (q : ℕ) → same (P′ q .owned) 0 ≡ true → isRollbackOnly (P′ q) ≡ false
-    pub doom′ : (q : ℕ) → Nz (P′ q .owned) → isRollbackOnly (P′ q) ≡ v′ .failed (P q .owned) || v′ .disc (P q .owned)
+    pub markIs′ : (q : ℕ) → Nz (P′ q .owned) → isRollbackOnly (P′ q) ≡ v′ .failed (P q .owned) || v′ .disc (P q .owned)
     pub unfinished′ : (e : ℕ) → Nz (L′ e .number) → v′ .finished e (L e .originator) ≡ v .finished e (L e .originator)
     pub alive : (d q : ℕ) → Nz (L d .tx) → isAttached (L′ d) || isWaiting (L′ d) ≡ true → P q .owned ≡ L d .tx → P′ q .owned ≡ P q .owned
     pub home′ : (d : ℕ) → Nz (L d .tx) → isAttached (L′ d) ≡ true → txP P′ L′ (L d .originator) ≡ txP P L (L d .originator)
@@ -59,7 +59,7 @@ module _ (n m : ℕ) (P : ℕ → Party) (L : ℕ → Link) (v : Shows) (P′ : 
       seenLow = λ t z b. h .seen′ t ∙ w .seenLow t z b;
       seenHigh = λ t b. h .seen′ t ∙ w .seenHigh t b;
       clean = h .clean′;
-      doom = λ q z. rw (h .owned′ q z) (h .doom′ q z);
+      markIs = λ q z. rw (h .owned′ q z) (h .markIs′ q z);
       serve = h .serve′;
       works = λ q z. rw (h .served′ q z) (h .stays q z);
       mine = λ q z. rw (h .served′ q z) (left-working (h .less (P q .served)) (h .stays q z) .2 ∙ w .mine q (rw (h .served′ q z) at z));
@@ -79,7 +79,7 @@ module _ (n m : ℕ) (P : ℕ → Party) (L : ℕ → Link) (v : Shows) (P′ : 
       thereOpen = λ d o. let e = left-open (h .less d) o in rw (e .3) (w .thereOpen d (e .0));
       thereWork = λ d o. let e = left-working (h .less d) o in rw (e .1) (w .thereWork d (e .0));
       nought = nought′;
-      cutShut = λ d. left-cut (h .less d) (w .cutShut d);
+      disconnectedShut = λ d. left-disconnected (h .less d) (w .disconnectedShut d);
       ends = λ d. left-ends (h .less d) (w .ends d);
       low = λ d. left-low m (h .less d) (w .low d);
       upper = λ d z. w .upper d (rw (left-number (h .less d) z .0) at z);

@@ -18,7 +18,7 @@ use Rattle.rules.proofs.History.Tells.{Tell, nothing, sent, given, made
 abbrev pub isEnding : ℕ → Bool
 isEnding o = eqb o 2 || (eqb o 4 || eqb o 8)
 
--- neither cut nor told
+-- neither disconnected nor notified
 abbrev pub isWhole : Link → Bool
 isWhole l = eqb (l .disconnected) 0
 
@@ -76,7 +76,7 @@ pub data End (l : Link) (p : ℕ) : ℕ → Type 0 where
 -- what holds of every record that a list reaches, and not of every sound one; some moves rely on it
 pub record Sane (P : ℕ → Party) (L : ℕ → Link) (p : ℕ) : Type 0 where
   pub alone : Nz (L (P p .served) .tx) → P p .owned ≡ 0
-  pub cutShut : (d : ℕ) → isWhole (L d) ≡ false → isAttached (L d) ≡ false
+  pub disconnectedShut : (d : ℕ) → isWhole (L d) ≡ false → isAttached (L d) ≡ false
   pub unique : (q r : ℕ) → Nz (P q .owned) → P q .owned ≡ P r .owned → q ≡ r
 
 module _ (P : ℕ → Party) (L : ℕ → Link) (P′ : ℕ → Party) (L′ : ℕ → Link) where
@@ -134,7 +134,7 @@ module _ (P : ℕ → Party) (L : ℕ → Link) (P′ : ℕ → Party) (L′ : �
     pub others : (e : ℕ) → same e d ≡ false → L′ e ≡ L e
 
   -- the originator disconnects link d
-  pub record Hangs (d : ℕ) : Type 0 where
+  pub record Disconnects (d : ℕ) : Type 0 where
     pub was : isAttached (L d) ≡ true
     pub there : Nz (L d .number)
     pub fade : Left (L d) (L′ d)
@@ -235,7 +235,7 @@ module _ (c : Call) (p n m : ℕ) (P : ℕ → Party) (L : ℕ → Link) (n′ m
     grants : Kept → (d : ℕ) → Grants P L P′ L′ p d → Move (given d)
     finishes : Kept → (d : ℕ) → Finishes P L P′ L′ p d → Move (finished d)
     cancels : Kept → (d : ℕ) → Cancels P L P′ L′ d → Move nothing
-    hangs : Kept → (d : ℕ) → Hangs P L P′ L′ d → Move (disconnected d)
+    disconnects : Kept → (d : ℕ) → Disconnects P L P′ L′ d → Move (disconnected d)
     leaves : Kept → (bad : Bool) → Loses P L P′ L′ → (Sane P L p → Leaves P L P′ L′ p bad) → Move (left bad)
     ends : Kept → Ends P L P′ L′ p → Move nothing
     -- from no transaction

@@ -11,7 +11,7 @@ use Rattle.rules.specs.Record.{isAttached, isRollbackOnly, party, live, 
 use Rattle.rules.specs.Transaction.{servedTx, txOf, late, isOwner, isOpenOf, canCommit}
 use Rattle.rules.specs.Lists.{anyOf}
 use Rattle.rules.specs.Tx.{commitOf}
-use Rattle.rules.specs.Step.{ruleOf, isKind, advanced, laterOf, told}
+use Rattle.rules.specs.Step.{ruleOf, isKind, advanced, laterOf, answeredTo}
 use Rattle.rules.specs.History.{Event, ofKind, past21, txAt, latestTx, upToStart, greatestClock, deadlinePassed, committed, senderRule, commitRule, aloneRule, holds}
 use Rattle.rules.specs.declared.Call.{Call}
 use Rattle.rules.specs.declared.Monitor.{Monitor}
@@ -91,7 +91,7 @@ module _ (m : Monitor) (h : List Event) (i : Reached m h) (c : Call) (kind : isK
   next₁ = next (m₀ .lastlink) h (eventOf c r) (moved .tell) bounds₀ (moved .tells) (move-above (moved .move)) valueless
 
   tx₁ : e .answer .tx ≡ txP (λ q. party (r .monitor) q) (λ d. look d (live (r .monitor))) (c .party)
-  unfolding e eventOf told
+  unfolding e eventOf answeredTo
   tx₁ = txOf-txP (r .monitor) (moved .frame) (c .party)
 
   world₁ : World (r .monitor .lastlink) (r .monitor .lasttx) (λ q. party (r .monitor) q) (λ d. look d (live (r .monitor))) (showsOf (e ∷ h))
@@ -184,9 +184,9 @@ module _ (m : Monitor) (h : List Event) (i : Reached m h) (c : Call) (kind : isK
   bounds₁ = let up = move-grows (moved .move) .0 in
       bounds-next _ h e (moved .tell) tells (told-grows _ _ (moved .tell) up (move-told world₀ (moved .move))) (bounds-grow _ _ h up bounds₀)
 
-  pub reached-next : Reached (told (ruleOf (advanced m (c .clock)) (c .party) (c .kind) (c .a) (c .b) (c .c)) (c .party) .monitor)
+  pub reached-next : Reached (answeredTo (ruleOf (advanced m (c .clock)) (c .party) (c .kind) (c .a) (c .b) (c .c)) (c .party) .monitor)
       (eventOf c (ruleOf (advanced m (c .clock)) (c .party) (c .kind) (c .a) (c .b) (c .c)) ∷ h)
-  unfolding holds e r m₀ told
+  unfolding holds e r m₀ answeredTo
   reached-next = record {
     fine = moved-fine m₀ c r fine₀ moved party16;
     world = world₁;

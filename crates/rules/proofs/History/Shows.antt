@@ -5,7 +5,7 @@ use mathlib.Core.Bool.{Bool, true, false, not, _&&_, _||_}
 use mathlib.Core.List.{List}
 use Prim.Native.Nat.{ℕ}
 use Rattle.rules.specs.Choice.{pick, same}
-use Rattle.rules.specs.History.{Event, some, by, withValue, endsIn, isOwner, makes, isLinkOf, serves, failedEnd, disconnect, finishes}
+use Rattle.rules.specs.History.{Event, some, by, withValue, endsIn, shownOwner, makes, isLinkOf, serves, failedEnd, disconnect, finishes}
 use Rattle.rules.proofs.Logic.{Nz}
 use Rattle.rules.proofs.History.Tells.{Tell, nothing, sent, given, made, taken, finished, disconnected, left}
 
@@ -35,7 +35,7 @@ showsOf h =
       finished = λ d o. some (finishes d o) h;
       failed = λ t. failedEnd (isLinkOf h t) h;
       disc = λ t. disconnect (isLinkOf h t) h;
-      owner = λ t p. isOwner h t p;
+      owner = λ t p. shownOwner h t p;
       seen = λ t. some (endsIn t) h;
     }
 

@@ -25,7 +25,7 @@ module _ {n m : ℕ} {P : ℕ → Party} {L : ℕ → Link} {v : Shows} (w : Wor
   unique q r z e = same-true q r (sym (w .ownerIs q r z) ∙ ap (λ t. v .owner t r) e ∙ w .ownerIs r r (rw (← e) z) ∙ same-refl r)
 
   pub sane : (p : ℕ) → Sane P L p
-  sane p = record { alone = w .alone p; cutShut = w .cutShut; unique = unique }
+  sane p = record { alone = w .alone p; disconnectedShut = w .disconnectedShut; unique = unique }
 
   pub tx-low : (p : ℕ) → txP P L p ≤ m
   unfolding txP
@@ -50,7 +50,7 @@ agrees {m} {P} {L} w a = record {
   seenLow = λ t z b. a .seen′ t (w .seenLow t z b);
   seenHigh = λ t b. a .unseen′ t b ∙ w .seenHigh t b;
   clean = w .clean;
-  doom = λ q z. rw (a .failed′ _ z, a .disc′ _ z) (w .doom q z);
+  markIs = λ q z. rw (a .failed′ _ z, a .disc′ _ z) (w .markIs q z);
   serve = λ q f. a .serves′ q f ∙ w .serve q f;
   works = w .works;
   mine = w .mine;
@@ -65,7 +65,7 @@ agrees {m} {P} {L} w a = record {
   thereOpen = w .thereOpen;
   thereWork = w .thereWork;
   nought = w .nought;
-  cutShut = w .cutShut;
+  disconnectedShut = w .disconnectedShut;
   ends = w .ends;
   low = w .low;
   upper = w .upper;

@@ -5,7 +5,7 @@ use mathlib.Core.List.{[]}
 use Prim.Native.Nat.{ℕ}
 use native.Mathlib.Omega.{arith}
 use Rattle.rules.specs.Record.{freshParty}
-use Rattle.rules.specs.History.{some, upToStart, startedBy, isOwner, isLinkOf, serves, failedEnd, disconnect}
+use Rattle.rules.specs.History.{some, upToStart, startedBy, shownOwner, isLinkOf, serves, failedEnd, disconnect}
 use Rattle.rules.specs.declared.Link.{Link}
 use Rattle.rules.specs.declared.Party.{Party}
 use Rattle.rules.proofs.Logic.{not-both, same-refl, same-false, zero-nz}
@@ -29,14 +29,14 @@ module _ {P : ℕ → Party} {L : ℕ → Link} (fresh : (q : ℕ) → P q ≡ f
   no-tx d = rw (empty d)
 
   pub start-world : World 0 0 P L (showsOf [])
-  unfolding showsOf some upToStart startedBy isOwner isLinkOf serves failedEnd disconnect noLink
+  unfolding showsOf some upToStart startedBy shownOwner isLinkOf serves failedEnd disconnect noLink
   start-world = record {
     ownerIs = λ q r z. zero-nz (no-owned q) z;
     below = λ q. let a = no-owned q in omega arith;
     seenLow = λ t z b. absurd (same-false _ _ z (omega arith));
     seenHigh = λ _ _. refl;
     clean = λ q _. rw (fresh q);
-    doom = λ q z. zero-nz (no-owned q) z;
+    markIs = λ q z. zero-nz (no-owned q) z;
     serve = λ q f. rw (no-served q, same-refl 0);
     works = λ q z. zero-nz (no-served q) z;
     mine = λ q z. zero-nz (no-served q) z;
@@ -51,7 +51,7 @@ module _ {P : ℕ → Party} {L : ℕ → Link} (fresh : (q : ℕ) → P q ≡ f
     thereOpen = λ d o. not-both (rw (empty d) at o) refl;
     thereWork = λ d o. not-both (rw (empty d) at o) refl;
     nought = no-tx 0;
-    cutShut = λ d _. rw (empty d);
+    disconnectedShut = λ d _. rw (empty d);
     ends = λ d _. rw (empty d);
     low = λ d. let a = no-tx d in omega arith;
     upper = λ d z. zero-nz (no-number d) z;

@@ -14,8 +14,8 @@ use Rattle.rules.specs.Record.{freshParty, freshMonitor, party}
 use Rattle.rules.specs.Transaction.{servedTx, txOf}
 use Rattle.rules.specs.Step.{turnedDown, callOf, stepOf}
 use Rattle.rules.specs.Run.{callAt, placesOf, ranOf, answersOf, callsIn, Listed, listOf}
-use Rattle.rules.specs.History.{Event, accepted, unheard, past21, answeredBy, latestTx, greatestClock, timeoutOf, isOwnersCommit, commitRule, aloneRule, holds, readCall, readAnswer, thenCalls, thenList}
-use Rattle.rules.specs.Demand.{Entry, single, lent, thenLent, answered, Demand3}
+use Rattle.rules.specs.History.{Event, accepted, unheard, past21, answeredBy, latestTx, greatestClock, shownTimeout, isOwnersCommit, commitRule, aloneRule, holds, firstCall, firstAnswer, thenCalls, thenList}
+use Rattle.rules.specs.Demand.{Entry, single, lent, thenLent, thenEntries, Demand3}
 use Rattle.rules.specs.declared.Answer.{Answer}
 use Rattle.rules.specs.declared.Call.{Call}
 use Rattle.rules.specs.declared.Monitor.{Monitor}
@@ -65,7 +65,7 @@ module _ (m : Monitor) (h : List Event) (i : Reached m h) (c : Call) (code : ℤ
   times-refused = record {
     clock = (unfold greatestClock in rw past-not (i .times .clock));
     latest = λ q. (unfold latestTx in rw (past-not, and-false) (i .times .latest q));
-    timeout = λ q. (unfold timeoutOf in rw (accepted-not, and-false) (i .times .timeout q));
+    timeout = λ q. (unfold shownTimeout in rw (accepted-not, and-false) (i .times .timeout q));
     deadline = λ q z. rw (started-before (party m q .owned) e h (unfold showsOf in i .world .seenLow (party m q .owned) z (i .world .below q))) (i .times .deadline q z);
     opened = i .times .opened;
   }
@@ -127,7 +127,7 @@ reached-fresh = record {
   times = record {
     clock = unfold greatestClock in refl;
     latest = λ q. (unfold latestTx txOf servedTx pick in rw (fresh-parties 16 q));
-    timeout = λ q. (unfold timeoutOf in rw (fresh-parties 16 q));
+    timeout = λ q. (unfold shownTimeout in rw (fresh-parties 16 q));
     deadline = λ q z. zero-nz (rw (fresh-parties 16 q)) z;
     opened = λ q z. zero-nz (rw (fresh-parties 16 q)) z;
   };
@@ -138,7 +138,7 @@ reached-fresh = record {
 -- ---- n calls of a lent list, and what their places read as
 pub reached-calls : (n : ℕ) (m : Monitor) (h : List Event) (cs : List ℕ) (rest : List ℤ) → Reached m h
     → Reached (ranOf n m cs) (thenCalls n cs (answersOf n m cs ++ rest) h)
-unfolding ranOf answersOf thenCalls placesOf readAnswer readCall callAt eventBy
+unfolding ranOf answersOf thenCalls placesOf firstAnswer firstCall callAt eventBy
 reached-calls zero m h cs rest i = i
 reached-calls (suc n) m h cs rest i =
     reached-calls n (callOf m (callAt cs) .monitor) (eventBy (callAt cs) (callOf m (callAt cs) .answer) ∷ h) (drop 6 cs) rest (reached-call m h i (callAt cs))
@@ -154,8 +154,8 @@ reached-lent m h cs out i = byTest (λ (l : Listed). Reached (l .monitor) (thenL
     (λ _. unfold thenLent in i))
     (λ _. unfold thenLent in i)
 
-reached-all : (es : List Entry) (m : Monitor) (h : List Event) → Reached m h → holds (answered m h es) ≡ true
-unfolding answered
+reached-all : (es : List Entry) (m : Monitor) (h : List Event) → Reached m h → holds (thenEntries m h es) ≡ true
+unfolding thenEntries
 reached-all [] m h i = i .statement
 reached-all (single c ∷ es) m h i = reached-all es (stepOf m c .monitor) _ (unfold eventBy in reached-step m h i c)
 reached-all (lent cs out ∷ es) m h i = reached-all es (listOf m cs out .monitor) _ (reached-lent m h cs out i)

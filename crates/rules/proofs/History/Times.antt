@@ -10,8 +10,8 @@ use borrow.Author.Tests.{eqb-true, eqb-false, eq-eqb, ne-eqb, ltb-true, ltb-fals
 use Rattle.rules.specs.Choice.{same}
 use Rattle.rules.specs.Record.{isOpened, isWorking, isWaiting, party, live}
 use Rattle.rules.specs.Transaction.{txOf, late, deadlineOf}
-use Rattle.rules.specs.Step.{laterOf, told}
-use Rattle.rules.specs.History.{Event, some, ofKind, by, accepted, past21, endsIn, upToStart, latestTx, greatestClock, timeoutOf, timeoutAtStart, due, deadlinePassed}
+use Rattle.rules.specs.Step.{laterOf, answeredTo}
+use Rattle.rules.specs.History.{Event, some, ofKind, by, accepted, past21, endsIn, upToStart, latestTx, greatestClock, shownTimeout, timeoutAtStart, due, deadlinePassed}
 use Rattle.rules.specs.declared.Call.{Call}
 use Rattle.rules.specs.declared.Link.{Link}
 use Rattle.rules.specs.declared.Monitor.{Monitor}
@@ -30,7 +30,7 @@ use Rattle.rules.proofs.History.Walk.Moved.{eventOf, Own, keeps, loses,
 pub record Times (m : Monitor) (h : List Event) : Type 0 where
   pub clock : greatestClock h ≡ m .clock
   pub latest : (q : ℕ) → latestTx h q ≡ txOf m q
-  pub timeout : (q : ℕ) → timeoutOf h q ≡ party m q .timeout
+  pub timeout : (q : ℕ) → shownTimeout h q ≡ party m q .timeout
   pub deadline : (q : ℕ) → Nz (party m q .owned)
       → party m q .deadline ≡ deadlineOf (greatestClock (upToStart (party m q .owned) h)) (timeoutAtStart (upToStart (party m q .owned) h))
   pub opened : (q : ℕ) → Nz (party m q .owned) → isOpened (party m q) ≡ true
@@ -53,7 +53,7 @@ module _ (c : Call) (p n m : ℕ) (P : ℕ → Party) (L : ℕ → Link) (n′ m
   served-tx (Moves.grants k d s) = s .like _ .tx′
   served-tx (Moves.finishes k d s) = ap (λ l. l .tx) (s .others _ (rests-not d (s .rests)))
   served-tx (Moves.cancels k d s) = faded d (s .fade) (s .fadeWorks) (s .others)
-  served-tx (Moves.hangs k d s) = faded d (s .fade) (s .fadeWorks) (s .others)
+  served-tx (Moves.disconnects k d s) = faded d (s .fade) (s .fadeWorks) (s .others)
   served-tx (Moves.leaves k bad s _) = left-working (s .less _) (s .stays q (rw stays nz) works) .3
   served-tx (Moves.ends k s) = left-working (s .less _) (s .works′ _ works) .3
   served-tx (Moves.begins a b _ _ s) = ap (λ l. l .tx) (s .links′ _)
@@ -76,7 +76,7 @@ started-before t e h s = rw s
 
 -- ---- a call past question 21, on a record whose clock is the call's already
 module _ (m : Monitor) (h : List Event) (c : Call) (r : Ruled) (f : Fine m) (k : Moved m c r)
-    (clk : greatestClock (eventOf c r ∷ h) ≡ m .clock) (lat : (q : ℕ) → latestTx h q ≡ txOf m q) (tim : (q : ℕ) → timeoutOf h q ≡ party m q .timeout)
+    (clk : greatestClock (eventOf c r ∷ h) ≡ m .clock) (lat : (q : ℕ) → latestTx h q ≡ txOf m q) (tim : (q : ℕ) → shownTimeout h q ≡ party m q .timeout)
     (dead : (q : ℕ) → Nz (party m q .owned)
     → party m q .deadline ≡ deadlineOf (greatestClock (upToStart (party m q .owned) h)) (timeoutAtStart (upToStart (party m q .owned) h)))
     (open′ : (q : ℕ) → Nz (party m q .owned) → isOpened (party m q) ≡ true)
@@ -117,10 +117,10 @@ module _ (m : Monitor) (h : List Event) (c : Call) (r : Ruled) (f : Fine m) (k :
       (λ y. rw (other q y) (lat q ∙ sym (tx-other q y)))
     where
       answered : e .answer .tx ≡ txOf (r .monitor) (c .party)
-      answered = unfold e eventOf told in refl
+      answered = unfold e eventOf answeredTo in refl
 
-  timeout₁ : (q : ℕ) → timeoutOf (e ∷ h) q ≡ party (r .monitor) q .timeout
-  unfolding timeoutOf
+  timeout₁ : (q : ℕ) → shownTimeout (e ∷ h) q ≡ party (r .monitor) q .timeout
+  unfolding shownTimeout
   timeout₁ q = test (same q (c .party))
       (λ y. let i : q ≡ c .party = same-true _ _ y in rw (i, own, tim (c .party)) (sym after))
       (λ y. rw (other q y) (tim q ∙ sym (k .others q y .timeout′)))
@@ -143,7 +143,7 @@ module _ (m : Monitor) (h : List Event) (c : Call) (r : Ruled) (f : Fine m) (k :
       new = unfold txOf same in pick-false _ _ _ z
 
       ends : endsIn (suc (m .lasttx)) e ≡ true
-      ends = unfold endsIn e eventOf told in eq-eqb (txOf (r .monitor) (c .party)) (suc (m .lasttx)) (new ∙ a)
+      ends = unfold endsIn e eventOf answeredTo in eq-eqb (txOf (r .monitor) (c .party)) (suc (m .lasttx)) (new ∙ a)
 
   deadline-own : Own m (party m (c .party)) (party (r .monitor) (c .party)) → Nz (party (r .monitor) (c .party) .owned)
       → party (r .monitor) (c .party) .deadline

@@ -166,7 +166,7 @@ module _ (c : Call) (p n m : ℕ) (P : ℕ → Party) (L : ℕ → Link) (n′ m
   turns q (Moves.grants k d s) = given-turns d (k .link) q s
   turns q (Moves.finishes k d s) = lost n L h e i n′ L′ (omega (arith, k .link)) (quietly q (λ _. refl)) (fades d (s .others) (gone (s .gone′)))
   turns q (Moves.cancels k d s) = lost n L h e i n′ L′ (omega (arith, k .link)) (quietly q (λ _. refl)) (fades d (s .others) (s .fade))
-  turns q (Moves.hangs k d s) = lost n L h e i n′ L′ (omega (arith, k .link)) (quietly q (λ _. refl)) (fades d (s .others) (s .fade))
+  turns q (Moves.disconnects k d s) = lost n L h e i n′ L′ (omega (arith, k .link)) (quietly q (λ _. refl)) (fades d (s .others) (s .fade))
   turns q (Moves.leaves k bad s _) = lost n L h e i n′ L′ (omega (arith, k .link)) (quietly q (λ _. refl)) (s .less)
   turns q (Moves.ends k s) = lost n L h e i n′ L′ (omega (arith, k .link)) (quietly q (λ _. refl)) (s .less)
   turns q (Moves.begins a b _ _ s) = still n L h e i n′ L′ (omega (arith, a)) (quietly q (λ _. refl)) (λ d. rw (s .links′ d) (i .calm d))
@@ -189,7 +189,7 @@ module _ (c : Call) (p n m : ℕ) (P : ℕ → Party) (L : ℕ → Link) (n′ m
       spoken q (Moves.grants _ _ _) y = not-both (rw q at y) refl
       spoken q (Moves.finishes _ _ _) y = not-both (rw q at y) refl
       spoken q (Moves.cancels _ _ _) y = not-both (rw q at y) refl
-      spoken q (Moves.hangs _ _ _) y = not-both (rw q at y) refl
+      spoken q (Moves.disconnects _ _ _) y = not-both (rw q at y) refl
       spoken q (Moves.leaves _ _ _ _) y = not-both (rw q at y) refl
       spoken q (Moves.ends _ _) y = not-both (rw q at y) refl
       spoken q (Moves.begins _ _ _ _ _) y = not-both (rw q at y) refl

@@ -20,7 +20,7 @@ pub record World (n m : ℕ) (P : ℕ → Party) (L : ℕ → Link) (v : Shows) 
   pub seenLow : (t : ℕ) → Nz t → t ≤ m → v .seen t ≡ true
   pub seenHigh : (t : ℕ) → m < t → v .seen t ≡ false
   pub clean : (q : ℕ) → same (P q .owned) 0 ≡ true → isRollbackOnly (P q) ≡ false
-  pub doom : (q : ℕ) → Nz (P q .owned) → isRollbackOnly (P q) ≡ v .failed (P q .owned) || v .disc (P q .owned)
+  pub markIs : (q : ℕ) → Nz (P q .owned) → isRollbackOnly (P q) ≡ v .failed (P q .owned) || v .disc (P q .owned)
   -- served links
   pub serve : (q : ℕ) (f : ℕ → Bool) → v .serves q f ≡ not (same (P q .served) 0) && f (P q .served)
   pub works : (q : ℕ) → Nz (P q .served) → isWorking (L (P q .served)) ≡ true
@@ -38,7 +38,7 @@ pub record World (n m : ℕ) (P : ℕ → Party) (L : ℕ → Link) (v : Shows) 
   pub thereOpen : (d : ℕ) → isAttached (L d) ≡ true → Nz (L d .number)
   pub thereWork : (d : ℕ) → isWorking (L d) ≡ true → Nz (L d .number)
   pub nought : L 0 .tx ≡ 0
-  pub cutShut : (d : ℕ) → isWhole (L d) ≡ false → isAttached (L d) ≡ false
+  pub disconnectedShut : (d : ℕ) → isWhole (L d) ≡ false → isAttached (L d) ≡ false
   pub ends : (d : ℕ) → isReturned (L d) ≡ true → isEnding (L d .outcome) ≡ true
   pub low : (d : ℕ) → L d .tx ≤ m
   pub upper : (d : ℕ) → Nz (L d .number) → d ≤ n

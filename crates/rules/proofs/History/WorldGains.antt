@@ -57,9 +57,9 @@ module _ {n m : ℕ} {P : ℕ → Party} {L : ℕ → Link} {v : Shows} (w : Wor
     clean = byNumber p (λ q. same (P′ q .owned) 0 ≡ true → isRollbackOnly (P′ q) ≡ false)
         (λ z. not-both (rw (h .pOwned) at z) (suc-nz m))
         (λ q e z. rw (h .mark′ q e) (w .clean q (rw (h .owned′ q e) at z)));
-    doom = byNumber p (λ q. Nz (P′ q .owned) → isRollbackOnly (P′ q) ≡ v .failed (P′ q .owned) || v .disc (P′ q .owned))
+    markIs = byNumber p (λ q. Nz (P′ q .owned) → isRollbackOnly (P′ q) ≡ v .failed (P′ q .owned) || v .disc (P′ q .owned))
         (λ _. rw (h .pOwned, w .newFailed (suc m) (omega arith), w .newDisc (suc m) (omega arith), h .pMark) (w .clean p (rw none-owned (same-refl 0))))
-        (λ q e z. rw (h .owned′ q e, h .mark′ q e) (w .doom q (rw (h .owned′ q e) at z)));
+        (λ q e z. rw (h .owned′ q e, h .mark′ q e) (w .markIs q (rw (h .owned′ q e) at z)));
     serve = λ q f. rw (h .served′ q) (w .serve q f);
     works = λ q z. rw (h .served′ q) (w .works q (rw (h .served′ q) at z));
     mine = λ q z. rw (h .served′ q) (w .mine q (rw (h .served′ q) at z));
@@ -85,7 +85,7 @@ module _ {n m : ℕ} {P : ℕ → Party} {L : ℕ → Link} {v : Shows} (w : Wor
     thereOpen = w .thereOpen;
     thereWork = w .thereWork;
     nought = w .nought;
-    cutShut = w .cutShut;
+    disconnectedShut = w .disconnectedShut;
     ends = w .ends;
     low = λ d. let b = w .low d in omega arith;
     upper = w .upper;
@@ -178,7 +178,7 @@ module _ {n m : ℕ} {P : ℕ → Party} {L : ℕ → Link} {v : Shows} (w : Wor
       seenLow = wₚ .seenLow;
       seenHigh = wₚ .seenHigh;
       clean = wₚ .clean;
-      doom = wₚ .doom;
+      markIs = wₚ .markIs;
       serve = wₚ .serve;
       works = λ q z. rw (old-served q) (wₚ .works q z);
       mine = λ q z. rw (old-served q) (wₚ .mine q z);
@@ -204,7 +204,7 @@ module _ {n m : ℕ} {P : ℕ → Party} {L : ℕ → Link} {v : Shows} (w : Wor
       thereOpen = byNumber (suc n) (λ d. isAttached (L′ d) ≡ true → Nz (L′ d .number)) (λ _. rw (h .number) (suc-nz n)) (λ e q. rw (h .others e q) (wₚ .thereOpen e));
       thereWork = byNumber (suc n) (λ d. isWorking (L′ d) ≡ true → Nz (L′ d .number)) (λ _. rw (h .number) (suc-nz n)) (λ e q. rw (h .others e q) (wₚ .thereWork e));
       nought = rw (h .others 0 (same-ne 0 (suc n) (omega arith))) (wₚ .nought);
-      cutShut = byNumber (suc n) (λ d. isWhole (L′ d) ≡ false → isAttached (L′ d) ≡ false) (λ z. not-both (h .whole) z) (λ e q. rw (h .others e q) (wₚ .cutShut e));
+      disconnectedShut = byNumber (suc n) (λ d. isWhole (L′ d) ≡ false → isAttached (L′ d) ≡ false) (λ z. not-both (h .whole) z) (λ e q. rw (h .others e q) (wₚ .disconnectedShut e));
       ends = byNumber (suc n) (λ d. isReturned (L′ d) ≡ true → isEnding (L′ d .outcome) ≡ true) (λ z. not-both (rw waits-state at z) refl) (λ e q. rw (h .others e q) (wₚ .ends e));
       low = byNumber (suc n) (λ d. L′ d .tx ≤ m) (rw (h .tx) x-low) (λ e q. rw (h .others e q) (wₚ .low e));
       upper = byNumber (suc n) (λ d. Nz (L′ d .number) → d ≤ suc n) (λ _. omega arith) (λ e q z. let u = wₚ .upper e (rw (h .others e q) at z) in omega arith);
@@ -288,7 +288,7 @@ module _ {n m : ℕ} {P : ℕ → Party} {L : ℕ → Link} {v : Shows} (w : Wor
     seenLow = w .seenLow;
     seenHigh = w .seenHigh;
     clean = λ q z. rw (h .mark′ q) (w .clean q (rw (h .owned′ q) at z));
-    doom = λ q z. rw (h .owned′ q, h .mark′ q) (w .doom q (rw (h .owned′ q) at z));
+    markIs = λ q z. rw (h .owned′ q, h .mark′ q) (w .markIs q (rw (h .owned′ q) at z));
     serve = byNumber p (λ q. (f : ℕ → Bool) → s q f ≡ not (same (P′ q .served) 0) && f (P′ q .served))
         (λ f. servers p f ∙ rw (same-refl p, w .serve p f, h .servedNone, same-refl 0, or-false, h .pServed, d-nz))
         (λ q e f. servers q f ∙ rw (same-ne p q (λ r. same-false q p e (sym r)), h .served′ q e) (w .serve q f));
@@ -312,7 +312,7 @@ module _ {n m : ℕ} {P : ℕ → Party} {L : ℕ → Link} {v : Shows} (w : Wor
     thereOpen = byLink (λ e l. isAttached l ≡ true → Nz (l .number)) (λ _. h .there) (w .thereOpen);
     thereWork = byLink (λ e l. isWorking l ≡ true → Nz (l .number)) (λ _. h .there) (w .thereWork);
     nought = same-tx 0 ∙ w .nought;
-    cutShut = byLink (λ e l. isWhole l ≡ false → isAttached l ≡ false) (w .cutShut d) (w .cutShut);
+    disconnectedShut = byLink (λ e l. isWhole l ≡ false → isAttached l ≡ false) (w .disconnectedShut d) (w .disconnectedShut);
     ends = byLink (λ e l. isReturned l ≡ true → isEnding (l .outcome) ≡ true) (λ z. not-both z refl) (w .ends);
     low = λ e. rw (same-tx e) (w .low e);
     upper = byLink (λ e l. Nz (l .number) → e ≤ n) (w .upper d) (w .upper);

@@ -12,7 +12,7 @@ use Rattle.rules.specs.declared.Party.{Party}
 use Rattle.rules.proofs.Logic.{Nz, pick-true, pick-false, same-refl, same-true, same-false, same-ne, test, not-both, and-l, and-r, and-false, or-l, or-true, above-nz, nz-other}
 use Rattle.rules.proofs.Fine.{noLink, txP}
 use Rattle.rules.proofs.History.Tells.{nothing, sent, given, finished, disconnected, left}
-use Rattle.rules.proofs.History.Moves.{Like, Left, gone, Idle, Sends, Grants, Finishes, Cancels, Hangs, Leaves, Ends}
+use Rattle.rules.proofs.History.Moves.{Like, Left, gone, Idle, Sends, Grants, Finishes, Cancels, Disconnects, Leaves, Ends}
 use Rattle.rules.proofs.History.Shows.{Shows, Next}
 use Rattle.rules.proofs.History.World.{World}
 use Rattle.rules.proofs.History.Left.{left-nought, left-open, left-working, fades, fades-works}
@@ -47,7 +47,7 @@ module _ {n m : ℕ} {P : ℕ → Party} {L : ℕ → Link} {v : Shows} (w : Wor
     seenLow = w .seenLow;
     seenHigh = w .seenHigh;
     clean = λ q z. rw (i .mark′ q) (w .clean q (rw (i .owned′ q) at z));
-    doom = λ q z. rw (i .mark′ q, i .owned′ q) (w .doom q (rw (i .owned′ q) at z));
+    markIs = λ q z. rw (i .mark′ q, i .owned′ q) (w .markIs q (rw (i .owned′ q) at z));
     serve = λ q f. rw (i .served′ q) (w .serve q f);
     works = λ q z. rw (i .served′ q, like (P q .served) .state′) (w .works q (rw (i .served′ q) at z));
     mine = λ q z. rw (i .served′ q, like (P q .served) .server′) (w .mine q (rw (i .served′ q) at z));
@@ -63,7 +63,7 @@ module _ {n m : ℕ} {P : ℕ → Party} {L : ℕ → Link} {v : Shows} (w : Wor
     thereOpen = λ d o. rw (like d .number′) (w .thereOpen d (rw (like d .attached′) at o));
     thereWork = λ d o. rw (like d .number′) (w .thereWork d (rw (like d .state′) at o));
     nought = like 0 .tx′ ∙ w .nought;
-    cutShut = λ d c. rw (like d .attached′) (w .cutShut d (rw (like d .whole′) at c));
+    disconnectedShut = λ d c. rw (like d .attached′) (w .disconnectedShut d (rw (like d .whole′) at c));
     ends = λ d c. rw (like d .outcome′) (w .ends d (rw (like d .state′) at c));
     low = λ d. rw (like d .tx′) (w .low d);
     upper = λ d z. w .upper d (rw (like d .number′) at z);
@@ -114,7 +114,7 @@ module _ {n m : ℕ} {P : ℕ → Party} {L : ℕ → Link} {v : Shows} (w : Wor
     serve′ = λ q f. rw (h .idle .served′ q) (k .serves′ q f ∙ w .serve q f);
     stays = λ q z. finish-works _ (w .works q (rw (h .idle .served′ q) at z));
     clean′ = λ q z. rw (h .idle .mark′ q) (w .clean q (rw (h .idle .owned′ q) at z));
-    doom′ = λ q z. let z′ : Nz (P q .owned) = rw (h .idle .owned′ q) at z in rw (h .idle .mark′ q, k .failed′ _ z′, k .disc′ _ z′) (w .doom q z′);
+    markIs′ = λ q z. let z′ : Nz (P q .owned) = rw (h .idle .owned′ q) at z in rw (h .idle .mark′ q, k .failed′ _ z′, k .disc′ _ z′) (w .markIs q z′);
     unfinished′ = λ e z. finish-other e _ (finish-there e z);
     alive = λ _ q _ _ _. h .idle .owned′ q;
     home′ = λ e _ _. txP-keeps P P′ L L′ (L e .originator) (h .idle .owned′ _) (h .idle .served′ _) (servedTx-stays w finish-less finish-works _);
@@ -145,7 +145,7 @@ module _ {n m : ℕ} {P : ℕ → Party} {L : ℕ → Link} {v : Shows} (w : Wor
     serve′ = λ q f. rw (h .idle .served′ q) (w .serve q f);
     stays = λ q z. cancel-works _ (w .works q (rw (h .idle .served′ q) at z));
     clean′ = λ q z. rw (h .idle .mark′ q) (w .clean q (rw (h .idle .owned′ q) at z));
-    doom′ = λ q z. rw (h .idle .mark′ q) (w .doom q (rw (h .idle .owned′ q) at z));
+    markIs′ = λ q z. rw (h .idle .mark′ q) (w .markIs q (rw (h .idle .owned′ q) at z));
     unfinished′ = λ _ _. refl;
     alive = λ _ q _ _ _. h .idle .owned′ q;
     home′ = λ e _ _. txP-keeps P P′ L L′ (L e .originator) (h .idle .owned′ _) (h .idle .served′ _) (servedTx-stays w cancel-less cancel-works _);
@@ -162,27 +162,27 @@ module _ {n m : ℕ} {P : ℕ → Party} {L : ℕ → Link} {v : Shows} (w : Wor
 
 -- ---- the originator disconnects
 module _ {n m : ℕ} {P : ℕ → Party} {L : ℕ → Link} {v : Shows} (w : World n m P L v) {P′ : ℕ → Party} {L′ : ℕ → Link} {v′ : Shows} {p x d : ℕ} {starts : Bool}
-    (is : x ≡ txP P′ L′ p) (k : Next (disconnected d) p x starts v v′) (h : Hangs P L P′ L′ d) where
-  hang-less : (e : ℕ) → Left (L e) (L′ e)
-  hang-less = fades d (h .others) (h .fade)
+    (is : x ≡ txP P′ L′ p) (k : Next (disconnected d) p x starts v v′) (h : Disconnects P L P′ L′ d) where
+  disconnects-less : (e : ℕ) → Left (L e) (L′ e)
+  disconnects-less = fades d (h .others) (h .fade)
 
-  hang-works : (e : ℕ) → isWorking (L e) ≡ true → isWorking (L′ e) ≡ true
-  hang-works = fades-works d (h .others) (h .fadeWorks)
+  disconnects-works : (e : ℕ) → isWorking (L e) ≡ true → isWorking (L′ e) ≡ true
+  disconnects-works = fades-works d (h .others) (h .fadeWorks)
 
   -- the owner of the link's transaction is marked, another's mark stays
-  hang-hit : (q : ℕ) → Nz (P q .owned) → L d .tx ≡ P q .owned → isRollbackOnly (P′ q) ≡ true
-  hang-hit q z r = h .hit (unique w) q (rw r z) (sym r)
+  disconnects-hit : (q : ℕ) → Nz (P q .owned) → L d .tx ≡ P q .owned → isRollbackOnly (P′ q) ≡ true
+  disconnects-hit q z r = h .hit (unique w) q (rw r z) (sym r)
 
-  hang-miss : (q : ℕ) → same (L d .tx) (P q .owned) ≡ false → P′ q .rollbackonly ≡ P q .rollbackonly
-  hang-miss q y = h .miss q (λ r. same-false _ _ y (sym r))
+  disconnects-miss : (q : ℕ) → same (L d .tx) (P q .owned) ≡ false → P′ q .rollbackonly ≡ P q .rollbackonly
+  disconnects-miss q y = h .miss q (λ r. same-false _ _ y (sym r))
 
-  hang-disc : (u : ℕ) → Nz u → v′ .disc u ≡ same (L d .tx) u || v .disc u
-  hang-disc u z = k .disc′ u z ∙ rw (w .ofTx d (h .there) u z)
+  disconnects-disc : (u : ℕ) → Nz u → v′ .disc u ≡ same (L d .tx) u || v .disc u
+  disconnects-disc u z = k .disc′ u z ∙ rw (w .ofTx d (h .there) u z)
 
-  hang-doom : (q : ℕ) → Nz (P q .owned) → isRollbackOnly (P′ q) ≡ v′ .failed (P q .owned) || v′ .disc (P q .owned)
-  hang-doom q z = rw (k .failed′ _ z, hang-disc _ z) (test (same (L d .tx) (P q .owned))
-      (λ y. rw (hang-hit q z (same-true _ _ y), y) (sym (or-true (v .failed (P q .owned)))))
-      (λ y. rw (hang-miss q y, y) (w .doom q z)))
+  disconnects-mark : (q : ℕ) → Nz (P q .owned) → isRollbackOnly (P′ q) ≡ v′ .failed (P q .owned) || v′ .disc (P q .owned)
+  disconnects-mark q z = rw (k .failed′ _ z, disconnects-disc _ z) (test (same (L d .tx) (P q .owned))
+      (λ y. rw (disconnects-hit q z (same-true _ _ y), y) (sym (or-true (v .failed (P q .owned)))))
+      (λ y. rw (disconnects-miss q y, y) (w .markIs q z)))
 
   pub hangs-world : World n m P′ L′ v′
   hangs-world = stamped k is (loses n m P L v P′ L′ (unstamped v v′) w (record {
@@ -190,21 +190,21 @@ module _ {n m : ℕ} {P : ℕ → Party} {L : ℕ → Link} {v : Shows} (w : Wor
     madeBy′ = k .madeBy′;
     owner′ = λ _ _. refl;
     seen′ = λ _. refl;
-    less = hang-less;
+    less = disconnects-less;
     owned′ = λ q _. h .owned′ q;
     served′ = λ q _. h .served′ q;
     serve′ = λ q f. rw (h .served′ q) (k .serves′ q f ∙ w .serve q f);
-    stays = λ q z. hang-works _ (w .works q (rw (h .served′ q) at z));
+    stays = λ q z. disconnects-works _ (w .works q (rw (h .served′ q) at z));
     clean′ = λ q z. let z′ : same (P q .owned) 0 ≡ true = rw (h .owned′ q) at z in rw (h .unowned q (same-true _ _ z′)) (w .clean q z′);
-    doom′ = λ q z. hang-doom q (rw (h .owned′ q) at z);
+    markIs′ = λ q z. disconnects-mark q (rw (h .owned′ q) at z);
     unfinished′ = λ e _. k .unfinished′ e _ refl;
     alive = λ _ q _ _ _. h .owned′ q;
-    home′ = λ e _ _. txP-keeps P P′ L L′ (L e .originator) (h .owned′ _) (h .served′ _) (servedTx-stays w hang-less hang-works _);
+    home′ = λ e _ _. txP-keeps P P′ L L′ (L e .originator) (h .owned′ _) (h .served′ _) (servedTx-stays w disconnects-less disconnects-works _);
     kept′ = λ e o q z b un fi. let z′ : Nz (P q .owned) = rw (h .owned′ q) at z in
         test (same (L d .tx) (P q .owned))
-        (λ y. not-both (hang-hit q z′ (same-true _ _ y)) un)
+        (λ y. not-both (disconnects-hit q z′ (same-true _ _ y)) un)
         (λ y. (
-          rw (hang-miss q y) at un,
+          rw (disconnects-miss q y) at un,
           sym (k .unfinished′ e o refl) ∙ fi,
           λ a. rw (h .others e (same-ne e d (λ r.
               same-false _ _ y (ap (λ u. L u .tx) (sym r) ∙ made-tx w e _ o a z′ b .0)))) a,
@@ -222,7 +222,7 @@ module _ {n m : ℕ} {P : ℕ → Party} {L : ℕ → Link} {v : Shows} (w : Wor
   -- an open end that is left is not p's
   end-home : (d : ℕ) → Nz (L d .tx) → isAttached (L′ d) ≡ true → same (L d .originator) p ≡ false
   unfolding txP
-  end-home d z o = same-ne _ _ (λ r. not-both {X = ⊥} o (or-l _ _ (h .swept d (w .cutShut d)
+  end-home d z o = same-ne _ _ (λ r. not-both {X = ⊥} o (or-l _ _ (h .swept d (w .disconnectedShut d)
       (w .home d z (left-open (h .less d) o .0) ∙ rw (r, pick-false (same (P p .owned) 0) (L (P p .served) .tx) (P p .owned) (h .has))))))
 
   pub ends-keeps : World n m P′ L′ v
@@ -239,10 +239,10 @@ module _ {n m : ℕ} {P : ℕ → Party} {L : ℕ → Link} {v : Shows} (w : Wor
     clean′ = λ q z. test (same q p)
         (λ y. let r : q ≡ p = same-true q p y in rw (r, h .pMark))
         (λ y. rw (h .mark′ q y) (w .clean q (rw (h .owned′ q y) at z)));
-    doom′ = λ q z. let y = end-other q z in rw (h .mark′ q y) (w .doom q (rw (h .owned′ q y) at z));
+    markIs′ = λ q z. let y = end-other q z in rw (h .mark′ q y) (w .markIs q (rw (h .owned′ q y) at z));
     unfinished′ = λ _ _. refl;
     alive = λ d q z o e. test (same q p)
-        (λ y. let r : q ≡ p = same-true q p y in not-both o (h .swept d (w .cutShut d) (sym e ∙ ap (λ u. P u .owned) r)))
+        (λ y. let r : q ≡ p = same-true q p y in not-both o (h .swept d (w .disconnectedShut d) (sym e ∙ ap (λ u. P u .owned) r)))
         (h .owned′ q);
     home′ = λ d z o. let y = end-home d z o in txP-keeps P P′ L L′ (L d .originator) (h .owned′ _ y) (h .served′ _) (servedTx-stays w (h .less) (h .works′) _);
     kept′ = λ e o q z b un fi. let y = end-other q z in let z′ : Nz (P q .owned) = rw (h .owned′ q y) at z in
@@ -289,12 +289,12 @@ module _ {n m : ℕ} {P : ℕ → Party} {L : ℕ → Link} {v : Shows} (w : Wor
   leave-failed : (u : ℕ) → Nz u → v′ .failed u ≡ (bad && same (L (P p .served) .tx) u) || v .failed u
   leave-failed u z = k .failed′ u z ∙ rw (of-served u z)
 
-  leave-doom : (q : ℕ) → same q p ≡ false → Nz (P q .owned) → isRollbackOnly (P′ q) ≡ v′ .failed (P q .owned) || v′ .disc (P q .owned)
-  leave-doom q y z = rw (leave-failed _ z, k .disc′ _ z) (test (same (L (P p .served) .tx) (P q .owned))
+  leave-mark : (q : ℕ) → same q p ≡ false → Nz (P q .owned) → isRollbackOnly (P′ q) ≡ v′ .failed (P q .owned) || v′ .disc (P q .owned)
+  leave-mark q y z = rw (leave-failed _ z, k .disc′ _ z) (test (same (L (P p .served) .tx) (P q .owned))
       (λ e. let r = same-true _ _ e in test bad
       (λ b. rw (e, b, h .hit q y b (sym r) z))
-      (λ b. rw (b, h .miss q y z (λ _ u. not-both u b) (λ i o a t. not-both (ours q y z i o a t .1) b)) (w .doom q z)))
-      (λ e. rw (e, and-false, h .miss q y z (λ u _. same-false _ _ e (sym u)) (λ i o a t. same-false _ _ e (sym (ours q y z i o a t .0)))) (w .doom q z)))
+      (λ b. rw (b, h .miss q y z (λ _ u. not-both u b) (λ i o a t. not-both (ours q y z i o a t .1) b)) (w .markIs q z)))
+      (λ e. rw (e, and-false, h .miss q y z (λ u _. same-false _ _ e (sym u)) (λ i o a t. same-false _ _ e (sym (ours q y z i o a t .0)))) (w .markIs q z)))
 
   -- another's served link is another, and goes on to work
   apart : (q : ℕ) → same q p ≡ false → Nz (P q .served) → same (P q .served) (P p .served) ≡ false
@@ -335,7 +335,7 @@ module _ {n m : ℕ} {P : ℕ → Party} {L : ℕ → Link} {v : Shows} (w : Wor
     clean′ = λ q z. test (same q p)
         (λ y. let r : q ≡ p = same-true q p y in rw r (h .pMark (w .clean p)))
         (λ y. let z′ : same (P q .owned) 0 ≡ true = rw (h .owned′ q y) at z in rw (h .unowned q y (same-true _ _ z′)) (w .clean q z′));
-    doom′ = λ q z. let y = leave-other q z in leave-doom q y (rw (h .owned′ q y) at z);
+    markIs′ = λ q z. let y = leave-other q z in leave-mark q y (rw (h .owned′ q y) at z);
     unfinished′ = λ e _. k .unfinished′ e _ refl;
     alive = λ d q z o e. test (same q p)
         (λ y. let r : q ≡ p = same-true q p y in

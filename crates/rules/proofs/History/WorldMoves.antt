@@ -7,7 +7,7 @@ use Rattle.rules.specs.declared.Link.{Link}
 use Rattle.rules.specs.declared.Party.{Party}
 use Rattle.rules.proofs.Fine.{txP}
 use Rattle.rules.proofs.History.Tells.{Tell, canStart}
-use Rattle.rules.proofs.History.Moves.{Kept, Move, quiet, sends, grants, finishes, cancels, hangs, leaves, ends, begins, renews, makes, makesFree, takes}
+use Rattle.rules.proofs.History.Moves.{Kept, Move, quiet, sends, grants, finishes, cancels, disconnects, leaves, ends, begins, renews, makes, makesFree, takes}
 use Rattle.rules.proofs.History.Shows.{Shows, Next}
 use Rattle.rules.proofs.History.World.{World}
 use Rattle.rules.proofs.History.Stamped.{sane}
@@ -26,7 +26,7 @@ module _ {c : Call} {p n m : ℕ} {P : ℕ → Party} {L : ℕ → Link} {n′ m
   move-world (grants k d h) w is e = kept-world k (grants-world w is e h)
   move-world (finishes k d h) w is e = kept-world k (finishes-world w is e h)
   move-world (cancels k d h) w is e = kept-world k (cancels-world w is e h)
-  move-world (hangs k d h) w is e = kept-world k (hangs-world w is e h)
+  move-world (disconnects k d h) w is e = kept-world k (hangs-world w is e h)
   move-world (leaves k bad _ h) w is e = kept-world k (leaves-world w is e (h (sane w p)))
   move-world (ends k h) w is e = kept-world k (ends-world w is e h)
   move-world (begins a b s none h) w is e = rw (a, b) (begins-world w is s e none h)

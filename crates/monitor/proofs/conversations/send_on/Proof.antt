@@ -1,5 +1,5 @@
 -- `conversations::send_on` meets its contract.
-use Rattle.monitor.proofs.Usual.{_≡_, ap, ap₂, sym, _∙_, true, not, _&&_, arith, needs, eqb, leb, lt-ltb, le-ltb, le-leb, lt-leb, not-true, not-false, Ruled, pick, pick-true, pick-false, noSuchEnd, timedOut, ask, expired, anyEnd, hearsCut, hearsReturn, holds, sendOn, view, ruledBy}
+use Rattle.monitor.proofs.Usual.{_≡_, ap, ap₂, sym, _∙_, true, not, _&&_, arith, needs, eqb, leb, lt-ltb, le-ltb, le-leb, lt-leb, not-true, not-false, Ruled, pick, pick-true, pick-false, noSuchEnd, timedOut, ask, expired, anyEnd, hearsDisconnect, hearsReturn, isSender, sendOn, view, ruledBy}
 use Rattle.rules.specs.Codes.{badArgument}
 use Rattle.monitor.proofs.Talking.{refused, changes}
 use Rattle.monitor.proofs.conversations.send_on.Statement.{statement}
@@ -8,20 +8,20 @@ use Rattle.monitor.proofs.conversations.send_on.Tie as tie
 known : (c : tie.Else1) → anyEnd (c .before .before .args .p) (c .before .before .args .l) ≡ true
 known c = sym (c .before .is-any-end .ensures) ∙ not-false _ (c .if1 .left)
 
--- the questions up to the cut are passed: the rule goes on with r
-talks : (c : tie.Else4) (x r : Ruled) → let a = c .before .before .before .before .before .before .before .before .args in let m = view (a .s .now) in ask m (anyEnd (a .p) (a .l)) noSuchEnd (ask m (leb (a .b) 1) badArgument (ask m (not (expired m (a .l .tx))) timedOut (pick (hearsCut (a .p) (a .l)) x r))) ≡ r
+-- the questions up to the disconnect are passed: the rule goes on with r
+talks : (c : tie.Else4) (x r : Ruled) → let a = c .before .before .before .before .before .before .before .before .args in let m = view (a .s .now) in ask m (anyEnd (a .p) (a .l)) noSuchEnd (ask m (leb (a .b) 1) badArgument (ask m (not (expired m (a .l .tx))) timedOut (pick (hearsDisconnect (a .p) (a .l)) x r))) ≡ r
 talks c x r =
     pick-true _ _ _ (known (c .before .before .before .before .before .before))
     ∙ pick-true _ _ _ (le-leb _ _ (c .before .before .before .before .before .if2 .left))
     ∙ pick-true _ _ _ (ap not (sym (c .before .before .before .is-expired .ensures) ∙ c .before .before .if3 .left))
-    ∙ pick-false _ _ _ (sym (c .before .hears-cut .ensures) ∙ c .if4 .left)
+    ∙ pick-false _ _ _ (sym (c .before .hears-disconnect .ensures) ∙ c .if4 .left)
 
 -- the two questions that the code asks with an answer of its own
 failing : (c : tie.After-hears-return) → let a = c .before .before .before .before .before .before .before .before .before .args in (hearsReturn (a .p) (a .l) && not (eqb (a .l .outcome) 8)) ≡ (c .hears-return .result && not (eqb (a .l .outcome) 8))
 failing c = rw (c .hears-return .ensures)
 
-holding : (c : tie.After-is-holder) → let a = c .before .before .before .before .before .before .before .before .before .before .before .before .args in (holds (a .p) (a .l) && eqb (a .l .granting) 0) ≡ (c .is-holder .result && eqb (a .l .granting) 0)
-holding c = rw (c .is-holder .ensures)
+sending : (c : tie.After-is-sender) → let a = c .before .before .before .before .before .before .before .before .before .before .before .before .args in (isSender (a .p) (a .l) && eqb (a .l .granting) 0) ≡ (c .is-sender .result && eqb (a .l .granting) 0)
+sending c = rw (c .is-sender .ensures)
 
 is-any-end-requires : tie.Need-is-any-end-requires
 is-any-end-requires c κs = search needs
@@ -56,22 +56,22 @@ returns-3 c = (
   c .before .before .before .before .before .before .before .pre .1,
 )
 
-hears-cut-requires : tie.Need-hears-cut-requires
-hears-cut-requires c κs = search needs
+hears-disconnect-requires : tie.Need-hears-disconnect-requires
+hears-disconnect-requires c κs = search needs
 
-tell-cut-requires : tie.Need-tell-cut-requires
-tell-cut-requires c κs = search needs
+tell-disconnect-requires : tie.Need-tell-disconnect-requires
+tell-disconnect-requires c κs = search needs
 
 returns-4 : tie.Need-returns-4
 unfolding sendOn
 returns-4 c = (
-  c .tell-cut .ensures .0
+  c .tell-disconnect .ensures .0
       ∙ sym
       (pick-true _ _ _ (known (c .before .before .before .before .before .before .before .before))
       ∙ pick-true _ _ _ (le-leb _ _ (c .before .before .before .before .before .before .before .if2 .left))
       ∙ pick-true _ _ _ (ap not (sym (c .before .before .before .before .before .is-expired .ensures) ∙ c .before .before .before .before .if3 .left))
-      ∙ pick-true _ _ _ (sym (c .before .before .before .hears-cut .ensures) ∙ c .before .before .if4 .taken)),
-  c .tell-cut .ensures .1,
+      ∙ pick-true _ _ _ (sym (c .before .before .before .hears-disconnect .ensures) ∙ c .before .before .if4 .taken)),
+  c .tell-disconnect .ensures .1,
 )
 
 hears-return-requires : tie.Need-hears-return-requires
@@ -87,8 +87,8 @@ returns-5 c = (
   c .tell-return .ensures .1,
 )
 
-is-holder-requires : tie.Need-is-holder-requires
-is-holder-requires c κs = search needs
+is-sender-requires : tie.Need-is-sender-requires
+is-sender-requires c κs = search needs
 
 coded-requires-4 : tie.Need-coded-requires-4
 coded-requires-4 c κs = search needs
@@ -99,7 +99,7 @@ returns-6 c = (
   refused (c .coded4 .ensures)
       (talks (c .before .before .before .before .before .before .before) _ _
       ∙ pick-false _ _ _ (failing (c .before .before .before .before .before .before) ∙ c .before .before .before .before .if5 .left)
-      ∙ pick-false _ _ _ (holding (c .before .before .before) ∙ not-true _ (c .before .if6 .taken))),
+      ∙ pick-false _ _ _ (sending (c .before .before .before) ∙ not-true _ (c .before .if6 .taken))),
   c .before .before .before .before .before .before .before .before .before .before .before .before .before .before .before .pre .1,
 )
 
@@ -112,7 +112,7 @@ returns-7 c = (
   refused (c .coded5 .ensures)
       (talks (c .before .before .before .before .before .before .before .before .before) _ _
       ∙ pick-false _ _ _ (failing (c .before .before .before .before .before .before .before .before) ∙ c .before .before .before .before .before .before .if5 .left)
-      ∙ pick-true _ _ _ (holding (c .before .before .before .before .before) ∙ not-false _ (c .before .before .before .if6 .left))
+      ∙ pick-true _ _ _ (sending (c .before .before .before .before .before) ∙ not-false _ (c .before .before .before .if6 .left))
       ∙ pick-false _ _ _ (le-ltb _ _ (c .before .if7 .taken))),
   c .before .before .before .before .before .before .before .before .before .before .before .before .before .before .before .before .before .pre .1,
 )
@@ -139,7 +139,7 @@ returns-8 c =
           ∙ sym
           (talks (c .before .before .before .before .before .before .before .before .before .before .before .before) _ _
           ∙ pick-false _ _ _ (failing (c .before .before .before .before .before .before .before .before .before .before .before) ∙ c .before .before .before .before .before .before .before .before .before .if5 .left)
-          ∙ pick-true _ _ _ (holding (c .before .before .before .before .before .before .before .before) ∙ not-false _ (c .before .before .before .before .before .before .if6 .left))
+          ∙ pick-true _ _ _ (sending (c .before .before .before .before .before .before .before .before) ∙ not-false _ (c .before .before .before .before .before .before .if6 .left))
           ∙ pick-true _ _ _ (lt-ltb _ _ (c .before .before .before .before .if7 .left))),
       c .before .put-link .ensures .1,
     )
@@ -156,13 +156,13 @@ send-on-spec =
     is-expired-requires
     coded-requires-3
     returns-3
-    hears-cut-requires
-    tell-cut-requires
+    hears-disconnect-requires
+    tell-disconnect-requires
     returns-4
     hears-return-requires
     tell-return-requires
     returns-5
-    is-holder-requires
+    is-sender-requires
     coded-requires-4
     returns-6
     coded-requires-5

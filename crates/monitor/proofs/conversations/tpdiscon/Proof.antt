@@ -1,5 +1,5 @@
--- `conversations::tpdiscon` meets its contract. To doom a transaction leaves the links, and so the link's place.
-use Rattle.monitor.proofs.Usual.{_≡_, ap, ap₂, sym, _∙_, arith, needs, not-true, not-false, Link, Monitor, pick-true, pick-false, linkOf, doom, originatorEnd, hungUp, disconnectOf, view, ruledBy, count-kept}
+-- `conversations::tpdiscon` meets its contract. To set a transaction rollback-only leaves the links, and so the link's place.
+use Rattle.monitor.proofs.Usual.{_≡_, ap, ap₂, sym, _∙_, arith, needs, not-true, not-false, Link, Monitor, pick-true, pick-false, linkOf, rollbackOnlyTx, originatorEnd, disconnectedAt, disconnectOf, view, ruledBy, count-kept}
 use Rattle.rules.specs.Record.{placeOf}
 use Rattle.monitor.proofs.Talking.{refused, no-originator, stands}
 use Rattle.monitor.proofs.conversations.tpdiscon.Statement.{statement}
@@ -41,13 +41,13 @@ returns-2 c =
     let own = ap (originatorEnd (s .args .p)) (sym (link (c .before .before .before))) ∙ sym (c .before .before .is-originator-end .ensures) ∙ not-true _ (c .before .if2 .taken) in
     (refused (c .coded2 .ensures) (pick-false _ _ _ own), s .pre .1)
 
-doom-tx-requires : tie.Need-doom-tx-requires
-doom-tx-requires c κs = search needs
+set-rollback-only-requires : tie.Need-set-rollback-only-requires
+set-rollback-only-requires c κs = search needs
 
-hang-up-requires : tie.Need-hang-up-requires
-hang-up-requires c κs =
+disconnect-at-requires : tie.Need-disconnect-at-requires
+disconnect-at-requires c κs =
     let s = c .before .before .before .before .before .before .before .before .before .before .before .before in
-    let d = c .before .doom-tx .ensures in
+    let d = c .before .set-rollback-only .ensures in
     let n = ap (λ (m : Monitor). m .count) (d .0) in
     let i = c .before .before .before .before .before .before .before .before .before .before .place-of .ensures ∙ ap (λ (m : Monitor). placeOf m (s .args .a)) (sym (d .0)) in
     (count-kept (d .0) (s .pre .0), d .1, i, omega (arith, n, c .before .before .before .before .before .before .before .before .count .ensures, c .before .before .before .before .before .before .before .if1 .left))
@@ -60,10 +60,10 @@ unfolding disconnectOf
 returns-3 c =
     let a = c .before .before .before .before .before .before .before .before .before .before .before .before .before .before .args in
     let l = link (c .before .before .before .before .before .before .before) in
-    let n = c .before .before .before .doom-tx .ensures .0 ∙ ap (λ (k : Link). doom (view (a .s .now)) (k .tx)) l in
+    let n = c .before .before .before .set-rollback-only .ensures .0 ∙ ap (λ (k : Link). rollbackOnlyTx (view (a .s .now)) (k .tx)) l in
     let own = ap (originatorEnd (a .p)) (sym l) ∙ sym (c .before .before .before .before .before .before .is-originator-end .ensures) ∙ not-false _ (c .before .before .before .before .before .if2 .left) in
-    let k = c .before .hang-up .ensures .0 ∙ ap₂ (λ (x : Monitor) (y : Link). hungUp x (a .a) y) n l in
-    (ap₂ ruledBy (c .accept .ensures) k ∙ sym (pick-true _ _ _ own), c .before .hang-up .ensures .1)
+    let k = c .before .disconnect-at .ensures .0 ∙ ap₂ (λ (x : Monitor) (y : Link). disconnectedAt x (a .a) y) n l in
+    (ap₂ ruledBy (c .accept .ensures) k ∙ sym (pick-true _ _ _ own), c .before .disconnect-at .ensures .1)
 
 pub tpdiscon-spec : {M : Type 1} → statement M
 tpdiscon-spec =
@@ -77,7 +77,7 @@ tpdiscon-spec =
     is-originator-end-requires
     coded-requires-2
     returns-2
-    doom-tx-requires
-    hang-up-requires
+    set-rollback-only-requires
+    disconnect-at-requires
     accept-requires
     returns-3)

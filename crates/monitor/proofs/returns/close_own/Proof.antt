@@ -1,4 +1,4 @@
--- `returns::close_own` meets its contract: a sweep that dooms.
+-- `returns::close_own` meets its contract: a sweep that marks transactions on the way.
 -- Assumes nothing.
 use Prim.Native.Nat.{_-_}
 use mathlib.Core.Path.{_≡_, sym, _∙_}
@@ -6,7 +6,7 @@ use native.Mathlib.Omega.{arith}
 use borrow.Author.Needs.{needs}
 use Rattle.rules.proofs.Logic.{not-true, not-false}
 use Rattle.monitor.specs.View.{view}
-use Rattle.monitor.proofs.Closing.{stays, cuts, conversation-goes, request-goes, closes, dooms, not-own, no-conversation, Closes, close-start, close-drop, close-put, doom-drop, doom-put, close-end}
+use Rattle.monitor.proofs.Closing.{stays, disconnects, conversation-goes, request-goes, closes, marks, not-own, no-conversation, Closes, close-start, close-drop, close-put, mark-drop, mark-put, close-end}
 use Rattle.monitor.proofs.returns.close_own.Statement.{statement}
 use Rattle.monitor.proofs.returns.close_own.Tie as tie
 
@@ -53,14 +53,14 @@ loop-again c =
     let e = v .inv .0 in
     (e, close-put (v .inv .1) (omega arith) (l .ensures) (not-own _ _ own) _ (c .put-link .ensures) (stays _ _ own))
 
-cut-off-requires : tie.Need-cut-off-requires Inv-loop μ-loop
-cut-off-requires c κs = search needs
+disconnect-link-requires : tie.Need-disconnect-link-requires Inv-loop μ-loop
+disconnect-link-requires c κs = search needs
 
 put-link-requires-2 : tie.Need-put-link-requires-2 Inv-loop μ-loop
 put-link-requires-2 c κs = search needs
 
-doom-tx-requires : tie.Need-doom-tx-requires Inv-loop μ-loop
-doom-tx-requires c κs = search needs
+set-rollback-only-requires : tie.Need-set-rollback-only-requires Inv-loop μ-loop
+set-rollback-only-requires c κs = search needs
 
 add-i-2 : tie.Need-add-i-2 Inv-loop μ-loop
 add-i-2 c = search needs
@@ -82,10 +82,10 @@ loop-again-2 c =
     let own = sym (c .before .before .before .before .before .before .before .before .before .before .is-own-end .ensures) ∙ not-false _ (c .before .before .before .before .before .before .before .before .before .if1 .left) in
     let e = v .inv .0 in
     let h = c .before .before .before .before .before .before .before .before .before .before .before .before .before .loop-test .taken in
-    (e, doom-put (v .inv .1) (omega arith) (l .ensures) (dooms _ _ own (c .before .before .before .before .before .before .before .if2 .taken)) _ _ (c .before .before .put-link2 .ensures) (c .doom-tx .ensures) (cuts _ _ own _ (c .before .before .before .before .before .before .before .if2 .taken) (c .before .before .before .before .before .if3 .taken) (c .before .before .before .before .cut-off .ensures)))
+    (e, mark-put (v .inv .1) (omega arith) (l .ensures) (marks _ _ own (c .before .before .before .before .before .before .before .if2 .taken)) _ _ (c .before .before .put-link2 .ensures) (c .set-rollback-only .ensures) (disconnects _ _ own _ (c .before .before .before .before .before .before .before .if2 .taken) (c .before .before .before .before .before .if3 .taken) (c .before .before .before .before .disconnect-link .ensures)))
 
-doom-tx-requires-2 : tie.Need-doom-tx-requires-2 Inv-loop μ-loop
-doom-tx-requires-2 c κs = search needs
+set-rollback-only-requires-2 : tie.Need-set-rollback-only-requires-2 Inv-loop μ-loop
+set-rollback-only-requires-2 c κs = search needs
 
 add-i-3 : tie.Need-add-i-3 Inv-loop μ-loop
 add-i-3 c = search needs
@@ -99,7 +99,7 @@ loop-again-3 c =
     let l = c .before .before .before .before .before .before .before .before .link-at in
     let own = sym (c .before .before .before .before .before .before .before .is-own-end .ensures) ∙ not-false _ (c .before .before .before .before .before .before .if1 .left) in
     let e = v .inv .0 in
-    (e, doom-drop (v .inv .1) (omega arith) (l .ensures) (dooms _ _ own (c .before .before .before .before .if2 .taken)) _ (c .doom-tx2 .ensures) (conversation-goes _ _ own (c .before .before .before .before .if2 .taken) (c .before .before .if3 .left)))
+    (e, mark-drop (v .inv .1) (omega arith) (l .ensures) (marks _ _ own (c .before .before .before .before .if2 .taken)) _ (c .set-rollback-only2 .ensures) (conversation-goes _ _ own (c .before .before .before .before .if2 .taken) (c .before .before .if3 .left)))
 
 add-i-4 : tie.Need-add-i-4 Inv-loop μ-loop
 add-i-4 c = search needs
@@ -167,14 +167,14 @@ close-own-spec =
     add-j
     loop-less
     loop-again
-    cut-off-requires
+    disconnect-link-requires
     put-link-requires-2
-    doom-tx-requires
+    set-rollback-only-requires
     add-i-2
     add-j-2
     loop-less-2
     loop-again-2
-    doom-tx-requires-2
+    set-rollback-only-requires-2
     add-i-3
     loop-less-3
     loop-again-3

@@ -1,14 +1,14 @@
 -- `returns::leave_link` meets its contract: the steps one after the other, each an equation on the record.
 -- Assumes nothing.
-use Rattle.monitor.proofs.Usual.{ℕ, _≤_, ap, ap₂, _∙_, needs, Link, Monitor, changed, unreadAfter, closeOwn, endOwn, doomServed, servesNone, handBack, leave, view, live-of, changed-of, count-kept}
+use Rattle.monitor.proofs.Usual.{ℕ, _≤_, ap, ap₂, _∙_, needs, Link, Monitor, changed, unreadAfter, closeOwn, endOwn, rollbackOnlyServed, servesNone, handBack, leave, view, live-of, changed-of, count-kept}
 use Rattle.rules.proofs.Logic.{byTest}
 use Rattle.monitor.proofs.returns.leave_link.Statement.{statement}
 use Rattle.monitor.proofs.returns.leave_link.Tie as tie
 
 -- neither step changes how many links there are
-doom-served-room : (o t : ℕ) (m : Monitor) → m .count ≤ 32 → doomServed o t m .count ≤ 32
-unfolding doomServed
-doom-served-room o t m h = byTest (λ (n : Monitor). n .count ≤ 32) (λ _. h) (λ _. h)
+set-served-rollback-only-room : (o t : ℕ) (m : Monitor) → m .count ≤ 32 → rollbackOnlyServed o t m .count ≤ 32
+unfolding rollbackOnlyServed
+set-served-rollback-only-room o t m h = byTest (λ (n : Monitor). n .count ≤ 32) (λ _. h) (λ _. h)
 
 serves-none-room : (m : Monitor) (p : ℕ) → m .count ≤ 32 → servesNone m p .count ≤ 32
 unfolding servesNone
@@ -32,16 +32,16 @@ close-own-requires c κs = search needs
 end-own-requires : tie.Need-end-own-requires
 end-own-requires c κs = search needs
 
-doom-served-requires : tie.Need-doom-served-requires
-doom-served-requires c κs = search needs
+set-served-rollback-only-requires : tie.Need-set-served-rollback-only-requires
+set-served-rollback-only-requires c κs = search needs
 
 serve-none-requires : tie.Need-serve-none-requires
 serve-none-requires c κs = search needs
 
 hand-back-requires : tie.Need-hand-back-requires
 hand-back-requires c κs =
-    let doomed = count-kept (c .before .before .before .doom-served .ensures .0) (doom-served-room _ _ _ (c .before .before .before .before .before .end-own .ensures .2)) in
-    (count-kept (c .before .serve-none .ensures .0) (serves-none-room _ _ doomed), c .before .serve-none .ensures .1)
+    let marked = count-kept (c .before .before .before .set-served-rollback-only .ensures .0) (set-served-rollback-only-room _ _ _ (c .before .before .before .before .before .end-own .ensures .2)) in
+    (count-kept (c .before .serve-none .ensures .0) (serves-none-room _ _ marked), c .before .serve-none .ensures .1)
 
 returns : tie.Need-returns
 unfolding leave
@@ -55,7 +55,7 @@ returns c =
     let m₁ = c .before .before .before .before .before .before .before .before .before .before .change-at .ensures .0 ∙ changed-of m (a .d) (i .result) (i .ensures) (k .result) ∙ ap (changed m (a .d)) (k .ensures ∙ ap (unreadAfter (a .o)) e) in
     let m₂ = c .before .before .before .before .before .before .before .before .close-own .ensures .0 ∙ ap (λ (n : Monitor). closeOwn n (a .p)) m₁ in
     let m₃ = c .before .before .before .before .before .before .end-own .ensures .0 ∙ ap (λ (n : Monitor). endOwn n (a .p)) m₂ in
-    let m₄ = c .before .before .before .before .doom-served .ensures .0 ∙ ap₂ (λ (x : Link) (n : Monitor). doomServed (a .o) (x .tx) n) e m₃ in
+    let m₄ = c .before .before .before .before .set-served-rollback-only .ensures .0 ∙ ap₂ (λ (x : Link) (n : Monitor). rollbackOnlyServed (a .o) (x .tx) n) e m₃ in
     let m₅ = c .before .before .serve-none .ensures .0 ∙ ap (λ (n : Monitor). servesNone n (a .p)) m₄ in
     (c .hand-back .ensures .0 ∙ ap (λ (n : Monitor). handBack n (a .d) (a .o) (a .e)) m₅, c .hand-back .ensures .1)
 
@@ -69,7 +69,7 @@ leave-link-spec =
     change-at-requires
     close-own-requires
     end-own-requires
-    doom-served-requires
+    set-served-rollback-only-requires
     serve-none-requires
     hand-back-requires
     returns)

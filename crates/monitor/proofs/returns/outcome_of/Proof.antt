@@ -18,13 +18,13 @@ module _ (m : Monitor) (p a c : ℕ) (l : Link) (ends : Bool) (owned : ℕ) (e :
     unfolding outcomeOf
     of-request k = pick-false _ _ _ (asked false t) ∙ pick-false _ _ _ (ne-eqb _ _ k)
 
-    of-cut : l .kind ≡ 1 → (l .disconnected ≡ 0 → ⊥) → outcomeOf m p a c l ≡ 2
+    of-disconnected : l .kind ≡ 1 → (l .disconnected ≡ 0 → ⊥) → outcomeOf m p a c l ≡ 2
     unfolding outcomeOf
-    of-cut k d = pick-false _ _ _ (asked false t) ∙ pick-true _ _ _ (eq-eqb _ _ k) ∙ pick-true _ _ _ (ap not (ne-eqb _ _ d))
+    of-disconnected k d = pick-false _ _ _ (asked false t) ∙ pick-true _ _ _ (eq-eqb _ _ k) ∙ pick-true _ _ _ (ap not (ne-eqb _ _ d))
 
-    by-holder : l .kind ≡ 1 → l .disconnected ≡ 0 → outcomeOf m p a c l ≡ pick (isServerFree l) (plainOutcome a) (pick (eqb a 2 && eqb c 0) 4 2)
+    by-sender : l .kind ≡ 1 → l .disconnected ≡ 0 → outcomeOf m p a c l ≡ pick (isServerFree l) (plainOutcome a) (pick (eqb a 2 && eqb c 0) 4 2)
     unfolding outcomeOf
-    by-holder k d = pick-false _ _ _ (asked false t) ∙ pick-true _ _ _ (eq-eqb _ _ k) ∙ pick-false _ _ _ (ap not (eq-eqb _ _ d))
+    by-sender k d = pick-false _ _ _ (asked false t) ∙ pick-true _ _ _ (eq-eqb _ _ k) ∙ pick-false _ _ _ (ap not (eq-eqb _ _ d))
 
 owned-at-requires : tie.Need-owned-at-requires
 owned-at-requires c κs = search needs
@@ -42,7 +42,7 @@ returns-2 : tie.Need-returns-2
 returns-2 c = c .plain-outcome .ensures ∙ sym (of-request _ _ _ _ _ _ _ (c .before .before .before .before .has-own-end .ensures) (c .before .before .before .before .before .owned-at .ensures) (c .before .before .before .if1 .left) (c .before .if2 .taken))
 
 returns-3 : tie.Need-returns-3
-returns-3 c = sym (of-cut _ _ _ _ _ _ _ (c .before .before .before .before .before .has-own-end .ensures) (c .before .before .before .before .before .before .owned-at .ensures) (c .before .before .before .before .if1 .left) (c .before .before .if2 .left) (c .if3 .taken))
+returns-3 c = sym (of-disconnected _ _ _ _ _ _ _ (c .before .before .before .before .before .has-own-end .ensures) (c .before .before .before .before .before .before .owned-at .ensures) (c .before .before .before .before .if1 .left) (c .before .before .if2 .left) (c .if3 .taken))
 
 is-server-free-requires : tie.Need-is-server-free-requires
 is-server-free-requires c κs = search needs
@@ -51,13 +51,13 @@ plain-outcome-requires-2 : tie.Need-plain-outcome-requires-2
 plain-outcome-requires-2 c κs = search needs
 
 returns-4 : tie.Need-returns-4
-returns-4 c = c .plain-outcome2 .ensures ∙ sym (by-holder _ _ _ _ _ _ _ (c .before .before .before .before .before .before .before .before .has-own-end .ensures) (c .before .before .before .before .before .before .before .before .before .owned-at .ensures) (c .before .before .before .before .before .before .before .if1 .left) (c .before .before .before .before .before .if2 .left) (c .before .before .before .if3 .left) ∙ pick-true _ _ _ (sym (c .before .before .is-server-free .ensures) ∙ c .before .if4 .taken))
+returns-4 c = c .plain-outcome2 .ensures ∙ sym (by-sender _ _ _ _ _ _ _ (c .before .before .before .before .before .before .before .before .has-own-end .ensures) (c .before .before .before .before .before .before .before .before .before .owned-at .ensures) (c .before .before .before .before .before .before .before .if1 .left) (c .before .before .before .before .before .if2 .left) (c .before .before .before .if3 .left) ∙ pick-true _ _ _ (sym (c .before .before .is-server-free .ensures) ∙ c .before .if4 .taken))
 
 returns-5 : tie.Need-returns-5
-returns-5 c = sym (by-holder _ _ _ _ _ _ _ (c .before .before .before .before .before .before .before .before .has-own-end .ensures) (c .before .before .before .before .before .before .before .before .before .owned-at .ensures) (c .before .before .before .before .before .before .before .if1 .left) (c .before .before .before .before .before .if2 .left) (c .before .before .before .if3 .left) ∙ pick-false _ _ _ (sym (c .before .before .is-server-free .ensures) ∙ c .before .if4 .left) ∙ pick-true _ _ _ (c .if5 .taken))
+returns-5 c = sym (by-sender _ _ _ _ _ _ _ (c .before .before .before .before .before .before .before .before .has-own-end .ensures) (c .before .before .before .before .before .before .before .before .before .owned-at .ensures) (c .before .before .before .before .before .before .before .if1 .left) (c .before .before .before .before .before .if2 .left) (c .before .before .before .if3 .left) ∙ pick-false _ _ _ (sym (c .before .before .is-server-free .ensures) ∙ c .before .if4 .left) ∙ pick-true _ _ _ (c .if5 .taken))
 
 returns-6 : tie.Need-returns-6
-returns-6 c = sym (by-holder _ _ _ _ _ _ _ (c .before .before .before .before .before .before .before .before .has-own-end .ensures) (c .before .before .before .before .before .before .before .before .before .owned-at .ensures) (c .before .before .before .before .before .before .before .if1 .left) (c .before .before .before .before .before .if2 .left) (c .before .before .before .if3 .left) ∙ pick-false _ _ _ (sym (c .before .before .is-server-free .ensures) ∙ c .before .if4 .left) ∙ pick-false _ _ _ (c .if5 .left))
+returns-6 c = sym (by-sender _ _ _ _ _ _ _ (c .before .before .before .before .before .before .before .before .has-own-end .ensures) (c .before .before .before .before .before .before .before .before .before .owned-at .ensures) (c .before .before .before .before .before .before .before .if1 .left) (c .before .before .before .before .before .if2 .left) (c .before .before .before .if3 .left) ∙ pick-false _ _ _ (sym (c .before .before .is-server-free .ensures) ∙ c .before .if4 .left) ∙ pick-false _ _ _ (c .if5 .left))
 
 pub outcome-of-spec : {M : Type 1} → statement M
 outcome-of-spec =

@@ -3,7 +3,7 @@ use Rattle.monitor.proofs.Usual.{ℕ, _-_, _≤_, _<_, _≡_, refl, ap,
 use lib.ListN.{length-set, getD-replicate}
 use Rattle.rules.specs.Record.{isWorking}
 use Rattle.rules.proofs.Logic.{and-r, not-both}
-use Rattle.monitor.specs.Served.{serves, foundFor}
+use Rattle.monitor.specs.Served.{servedBy, foundFor}
 use Rattle.monitor.proofs.Checks.{links-over, link-passed, link-failed}
 use Rattle.monitor.proofs.Comparing.{link-read}
 use Rattle.monitor.proofs.Served.{server-small, found-over, found-next, found-put, found-kept}
@@ -81,7 +81,7 @@ loop-again c =
     let k = link-read xs (v .i) (l .result) (omega arith) (omega arith) (l .ensures) in
     let d : ℕ → ℕ = λ p. party (view xs) p .served in
     let w = ap (λ (d : ℕ). isWorking (l .result) && eqb (l .result .number) d) (sym (c .before .before .before .served-at .ensures)) in
-    let next : (p : ℕ) → pick (serves p (d p) (l .result)) (l .result .number) (getD (v .found) p 0) ≡ getD (c .if2 .found) p 0 = λ p.
+    let next : (p : ℕ) → pick (servedBy p (d p) (l .result)) (l .result .number) (getD (v .found) p 0) ≡ getD (c .if2 .found) p 0 = λ p.
     ⊎-elim
     (λ q. found-put (v .found) d (l .result) p (v .inv .3) (small (c .before .before .before .before .before)) (w ∙ q .0 .taken) ∙ ap (λ (f : List ℕ). getD f p 0) (sym (q .1)))
     (λ q. found-kept (v .found) d (l .result) p (w ∙ q .0 .left) ∙ ap (λ (f : List ℕ). getD f p 0) (sym (q .1)))

@@ -1,5 +1,5 @@
 -- `steps::tell` meets its contract.
-use Rattle.monitor.proofs.Usual.{_≡_, needs, w64, toZ, ofZ, view, told}
+use Rattle.monitor.proofs.Usual.{_≡_, needs, w64, toZ, ofZ, view, answeredTo}
 use Rattle.monitor.proofs.steps.tell.Statement.{statement}
 use Rattle.monitor.proofs.steps.tell.Tie as tie
 
@@ -7,7 +7,7 @@ tx-of-requires : tie.Need-tx-of-requires
 tx-of-requires c κs = search needs
 
 returns : tie.Need-returns
-unfolding told
+unfolding answeredTo
 returns c =
     let a = c .before .before .args in
     let r = a .r in

@@ -15,12 +15,12 @@ returns-2 : tie.Need-returns-2
 unfolding orphaned
 returns-2 c = sym (pick-false _ _ _ (ne-eqb _ _ (c .before .before .if1 .left)) ∙ pick-true _ _ _ (eq-eqb _ _ (c .if2 .taken)))
 
-cut-off-requires : tie.Need-cut-off-requires
-cut-off-requires c κs = search needs
+disconnect-link-requires : tie.Need-disconnect-link-requires
+disconnect-link-requires c κs = search needs
 
 returns-3 : tie.Need-returns-3
 unfolding orphaned
-returns-3 c = c .cut-off .ensures ∙ sym (pick-false _ _ _ (ne-eqb _ _ (c .before .before .before .if1 .left)) ∙ pick-false _ _ _ (ne-eqb _ _ (c .before .if2 .left)))
+returns-3 c = c .disconnect-link .ensures ∙ sym (pick-false _ _ _ (ne-eqb _ _ (c .before .before .before .if1 .left)) ∙ pick-false _ _ _ (ne-eqb _ _ (c .before .if2 .left)))
 
 pub orphan-spec : {M : Type 1} → statement M
-orphan-spec = tie.close (tie.spec close-end-requires returns returns-2 cut-off-requires returns-3)
+orphan-spec = tie.close (tie.spec close-end-requires returns returns-2 disconnect-link-requires returns-3)

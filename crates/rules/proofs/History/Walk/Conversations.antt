@@ -8,25 +8,25 @@ use lib.Dec.{eqb, leb}
 use lib.IntN.{ℤ}
 use lib.ListN.{getD}
 use Rattle.rules.specs.Choice.{same}
-use Rattle.rules.specs.Codes.{badArgument, notAllowedNow, noSuchEnd, timedOut, nothingUnread, unreadFull, accepted, tpeEvent}
-use Rattle.rules.specs.Record.{freshLink, freshParty, isConversation, isAttached, isWorking, isReturned, ownEnd, party, live, linkOf, changed, removed, cutOff, valued, notified, withSent, withoutOldest}
-use Rattle.rules.specs.Transaction.{doom, doomedIn}
-use Rattle.rules.specs.Conversations.{originatorEnd, serverEnd, anyEnd, hearsCut, hearsReturn, endSide, holds, tellsCut, tellsReturn, sendOn, sendOf, received, receiveOn, receiveOf, hungUp, disconnectOf}
+use Rattle.rules.specs.Codes.{badArgument, notAllowedNow, noSuchEnd, timedOut, nothingUnread, unreadFull, tpAccepted, tpeEvent}
+use Rattle.rules.specs.Record.{freshLink, freshParty, isConversation, isAttached, isWorking, isReturned, ownEnd, party, live, linkOf, changed, removed, disconnectedLink, valued, notified, withSent, withoutOldest}
+use Rattle.rules.specs.Transaction.{rollbackOnlyTx, rollbackOnlyIn}
+use Rattle.rules.specs.Conversations.{originatorEnd, serverEnd, anyEnd, hearsDisconnect, hearsReturn, endSide, isSender, tellsDisconnect, tellsReturn, sendOn, sendOf, received, receiveOn, receiveOf, disconnectedAt, disconnectOf}
 use Rattle.rules.specs.declared.Call.{Call}
 use Rattle.rules.specs.declared.Link.{Link}
 use Rattle.rules.specs.declared.Monitor.{Monitor}
 use Rattle.rules.specs.declared.Party.{Party}
 use Rattle.rules.proofs.Logic.{byTest, not-both, same-true, and-l, and-r, or-cases, Nz}
 use Rattle.rules.proofs.Fine.{noLink, look, Frame, Fine}
-use Rattle.rules.proofs.Parties.{doom-length, doom-either, doom-miss, doom-hit, doom-free, Marks, plain, marked, marks-good}
+use Rattle.rules.proofs.Parties.{rollbackOnlyIn-length, rollbackOnlyIn-either, rollbackOnlyIn-miss, rollbackOnlyIn-hit, rollbackOnlyIn-free, Marks, plain, marked, marks-good}
 use Rattle.rules.proofs.Changes.{parties-frame, changed-clock, changed-lastlink, changed-lasttx, changed-parties, changed-same, changed-other, changed-frame, changed-by, removed-same, removed-other, removed-frame, removed-parties, removed-clock, removed-lastlink, removed-lasttx}
 use Rattle.rules.proofs.History.Tells.{Tell, nothing, sent, given, disconnected}
 use Rattle.rules.proofs.History.Moves.{End, Like, Left, Move}
 use Rattle.rules.proofs.History.Left.{like-refl}
 use Rattle.rules.proofs.History.Walk.Moved.{Stays, Moved}
-use Rattle.rules.proofs.History.Walk.Says.{Says, isTimed, says-sent, says-received, says-given, says-ended, says-cut, says-disconnected, time-kept}
+use Rattle.rules.proofs.History.Walk.Says.{Says, isTimed, says-sent, says-received, says-given, says-ended, says-notified, says-disconnected, time-kept}
 use Rattle.rules.proofs.History.Walk.Base.{MoveTo, KeptTo, IdleTo, ask-moved, pick-moved, refused, idle-parties, moved-stays, moved-links, marks-stay, replied}
-use Rattle.rules.proofs.History.Walk.LinkChanges.{returned-ending, returned-rests, working-waits-not, notified-like, withSent-like, withoutOldest-like, cutOff-left}
+use Rattle.rules.proofs.History.Walk.LinkChanges.{returned-ending, returned-rests, working-waits-not, notified-like, withSent-like, withoutOldest-like, disconnectedLink-left}
 use Rattle.rules.proofs.History.Walk.Requests.{Found, found, changed-kept, finish-moved}
 
 -- ---- the caller's end
@@ -105,12 +105,12 @@ module _ (m : Monitor) (c : Call) (fine : Fine m) (timeless : isTimed (c .kind) 
   quiet-move : l′ .sender ≡ linkOf m (c .a) .sender → MoveTo m c (changed m (c .a) l′) nothing
   quiet-move s = Move.quiet (changed-kept m c (c .a) l′) idles likes (senders s)
 
--- ---- 17, 18: what the end's party is told
+-- ---- 17, 18: what the end's party learns
 module _ (m : Monitor) (c : Call) (fine : Fine m) (timeless : isTimed (c .kind) ≡ false) (kinds : eqb (c .kind) 17 || eqb (c .kind) 18 ≡ true) (f : Found m (c .a)) where
-  cut-moved : hearsCut (c .party) (linkOf m (c .a)) ≡ true → Moved m c (tellsCut m (c .a) (linkOf m (c .a)))
-  unfolding hearsCut tellsCut
-  cut-moved e = let k = notified-like (linkOf m (c .a)) (and-r (not (originatorEnd (c .party) (linkOf m (c .a)))) _ e) in
-      like-moved m c fine timeless f (notified (linkOf m (c .a))) k tpeEvent 1 0 nothing (says-cut c _ kinds refl refl refl)
+  notified-moved : hearsDisconnect (c .party) (linkOf m (c .a)) ≡ true → Moved m c (tellsDisconnect m (c .a) (linkOf m (c .a)))
+  unfolding hearsDisconnect tellsDisconnect
+  notified-moved e = let k = notified-like (linkOf m (c .a)) (and-r (not (originatorEnd (c .party) (linkOf m (c .a)))) _ e) in
+      like-moved m c fine timeless f (notified (linkOf m (c .a))) k tpeEvent 1 0 nothing (says-notified c _ kinds refl refl refl)
       (quiet-move m c fine timeless f (notified (linkOf m (c .a))) k refl)
 
   return-moved : hearsReturn (c .party) (linkOf m (c .a)) ≡ true → Moved m c (tellsReturn m (c .a) (linkOf m (c .a)))
@@ -124,9 +124,9 @@ module _ (m : Monitor) (c : Call) (fine : Fine m) (timeless : isTimed (c .kind) 
       (f .there′) (sym (ap (λ y. y .originator) i) ∙ o .originator) (returned-rests (look (c .a) (live m)) r)
 
 -- ---- 17 send
-holds-side : (p : ℕ) (l : Link) → holds p l ≡ true → l .sender ≡ endSide p l
-unfolding holds
-holds-side p l e = same-true _ _ e
+sender-side : (p : ℕ) (l : Link) → isSender p l ≡ true → l .sender ≡ endSide p l
+unfolding isSender
+sender-side p l e = same-true _ _ e
 
 pub send-moved : (m : Monitor) (c : Call) → Fine m → c .party < 16 → c .kind ≡ 17 → Moved m c (sendOf m (c .party) (c .a) (c .b) (c .c))
 unfolding sendOf sendOn
@@ -135,12 +135,12 @@ send-moved m c fine pb k =
     let i = f .is in
     let e′ : anyEnd (c .party) (look (c .a) (live m)) ≡ true = rw i at e in
     ask-moved (λ b. ask-moved (λ _.
-    pick-moved (λ h. cut-moved m c fine (rw k) (rw k) f h) (λ _.
+    pick-moved (λ h. notified-moved m c fine (rw k) (rw k) f h) (λ _.
     pick-moved (λ h. return-moved m c fine (rw k) (rw k) f (and-l _ _ h)) (λ _.
     ask-moved (λ h. ask-moved (λ r.
     let l′ = withSent (linkOf m (c .a)) (c .b) (c .c) in
     let y = withSent-like (linkOf m (c .a)) (c .b) (c .c) b r in
-    like-moved m c fine (rw k) f l′ y accepted 0 0 (sent (c .a)) (says-sent c _ k refl)
+    like-moved m c fine (rw k) f l′ y tpAccepted 0 0 (sent (c .a)) (says-sent c _ k refl)
     (Move.sends (changed-kept m c (c .a) l′) (c .a) (record {
       idle = idles m c fine (rw k) f l′ y;
       like = likes m c fine (rw k) f l′ y;
@@ -149,7 +149,7 @@ send-moved m c fine pb k =
       conversation = any-conversation _ _ e′;
       side = endSide (c .party) (look (c .a) (live m));
       end = any-end _ _ e′;
-      sender = holds-side (c .party) _ (rw i at (and-l (holds (c .party) (linkOf m (c .a))) _ h));
+      sender = sender-side (c .party) _ (rw i at (and-l (isSender (c .party) (linkOf m (c .a))) _ h));
     })))
     (λ _. refused unreadFull refl fine))
     (λ _. refused notAllowedNow refl fine))))
@@ -176,11 +176,11 @@ module _ (m : Monitor) (c : Call) (fine : Fine m) (k : c .kind ≡ 18) (f : Foun
         sender = ap (λ x. x .sender) (changed-same m (fine .frame) (c .a) (f .there′) l′ (f .number)) ∙ ap (endSide (c .party)) i;
       }))
 
-  oldest-moved : Moved m c (replied (changed m (c .a) (withoutOldest (linkOf m (c .a)) (linkOf m (c .a) .sender) (linkOf m (c .a) .granting))) accepted 0 (getD (linkOf m (c .a) .unread) 0 0))
+  oldest-moved : Moved m c (replied (changed m (c .a) (withoutOldest (linkOf m (c .a)) (linkOf m (c .a) .sender) (linkOf m (c .a) .granting))) tpAccepted 0 (getD (linkOf m (c .a) .unread) 0 0))
   oldest-moved =
       let l′ = withoutOldest (linkOf m (c .a)) (linkOf m (c .a) .sender) (linkOf m (c .a) .granting) in
       let y = withoutOldest-like (linkOf m (c .a)) (linkOf m (c .a) .sender) (linkOf m (c .a) .granting) (λ h. h .sender) (λ h. h .granting) in
-      like-moved m c fine (rw k) f l′ y accepted 0 (getD (linkOf m (c .a) .unread) 0 0) nothing (says-received c _ k refl) (quiet-move m c fine (rw k) f l′ y refl)
+      like-moved m c fine (rw k) f l′ y tpAccepted 0 (getD (linkOf m (c .a) .unread) 0 0) nothing (says-received c _ k refl) (quiet-move m c fine (rw k) f l′ y refl)
 
 pub receive-moved : (m : Monitor) (c : Call) → Fine m → c .party < 16 → c .kind ≡ 18 → Moved m c (receiveOf m (c .party) (c .a))
 unfolding receiveOf receiveOn received
@@ -189,7 +189,7 @@ receive-moved m c fine pb k =
     let i = f .is in
     let e′ : anyEnd (c .party) (look (c .a) (live m)) ≡ true = rw i at e in
     ask-moved (λ _.
-    pick-moved (λ h. cut-moved m c fine (rw k) (rw k) f h) (λ _.
+    pick-moved (λ h. notified-moved m c fine (rw k) (rw k) f h) (λ _.
     pick-moved (λ h. return-moved m c fine (rw k) (rw k) f h) (λ _.
     ask-moved (λ _. ask-moved (λ _. pick-moved (λ _. given-moved m c fine k f e′) (λ _. oldest-moved m c fine k f e′))
     (λ _. refused nothingUnread refl fine))
@@ -198,21 +198,21 @@ receive-moved m c fine pb k =
     (λ _. refused noSuchEnd refl fine)
 
 -- ---- 19 disconnect
--- the link's transaction is doomed, and the link goes or is cut
+-- the link's transaction becomes rollback-only, and the link goes or is disconnected
 module _ (m : Monitor) (c : Call) (fine : Fine m) (k : c .kind ≡ 19) (was : isAttached (look (c .a) (live m)) ≡ true) (th : Nz (look (c .a) (live m) .number))
-    (m′ : Monitor) (ps : m′ .parties ≡ doomedIn (look (c .a) (live m) .tx) (m .parties)) where
+    (m′ : Monitor) (ps : m′ .parties ≡ rollbackOnlyIn (look (c .a) (live m) .tx) (m .parties)) where
   marks : (q : ℕ) → Marks (party m q) (party m′ q)
-  marks q = rw ps (doom-either (look (c .a) (live m) .tx) (Marks (party m q)) q (m .parties) (plain refl) (marked refl))
+  marks q = rw ps (rollbackOnlyIn-either (look (c .a) (live m) .tx) (Marks (party m q)) q (m .parties) (plain refl) (marked refl))
 
   stays : (q : ℕ) → Stays (party m q) (party m′ q)
   stays q = marks-stay _ _ (marks q)
 
-  hang-moved : Frame m′ → m′ .clock ≡ m .clock → KeptTo m c m′ → Left (look (c .a) (live m)) (look (c .a) (live m′))
+  disconnects-moved : Frame m′ → m′ .clock ≡ m .clock → KeptTo m c m′ → Left (look (c .a) (live m)) (look (c .a) (live m′))
       → (isWorking (look (c .a) (live m)) ≡ true → isWorking (look (c .a) (live m′)) ≡ true) → ((e : ℕ) → same e (c .a) ≡ false → look e (live m′) ≡ look e (live m))
       → Moved m c (valued m′ 0)
-  hang-moved fr ck kept left works others =
+  disconnects-moved fr ck kept left works others =
       moved-stays m c (valued m′ 0) (disconnected (c .a)) fr ck stays (λ q. marks-good _ _ (marks q)) (time-kept c _ _ 19 k refl) (says-disconnected c _ k refl)
-      (Move.hangs kept (c .a) (record {
+      (Move.disconnects kept (c .a) (record {
         was = was;
         there = th;
         fade = left;
@@ -220,29 +220,29 @@ module _ (m : Monitor) (c : Call) (fine : Fine m) (k : c .kind ≡ 19) (was : is
         others = others;
         owned′ = λ q. stays q .owned′;
         served′ = λ q. stays q .served′;
-        hit = λ u q n e. rw (ps, doom-hit (look (c .a) (live m) .tx) n q (m .parties) e (λ r y. u r q (rw y n) (y ∙ sym e)));
-        miss = λ q n. ap (λ (x : List Party). getD x q freshParty .rollbackonly) ps ∙ ap (λ x. x .rollbackonly) (doom-miss (look (c .a) (live m) .tx) q (m .parties) n);
-        unowned = λ q e. ap (λ (x : List Party). getD x q freshParty .rollbackonly) ps ∙ ap (λ x. x .rollbackonly) (doom-free (look (c .a) (live m) .tx) q (m .parties) e);
+        hit = λ u q n e. rw (ps, rollbackOnlyIn-hit (look (c .a) (live m) .tx) n q (m .parties) e (λ r y. u r q (rw y n) (y ∙ sym e)));
+        miss = λ q n. ap (λ (x : List Party). getD x q freshParty .rollbackonly) ps ∙ ap (λ x. x .rollbackonly) (rollbackOnlyIn-miss (look (c .a) (live m) .tx) q (m .parties) n);
+        unowned = λ q e. ap (λ (x : List Party). getD x q freshParty .rollbackonly) ps ∙ ap (λ x. x .rollbackonly) (rollbackOnlyIn-free (look (c .a) (live m) .tx) q (m .parties) e);
       }))
 
 pub disconnect-moved : (m : Monitor) (c : Call) → Fine m → c .party < 16 → c .kind ≡ 19 → Moved m c (disconnectOf m (c .party) (c .a))
-unfolding disconnectOf hungUp
+unfolding disconnectOf disconnectedAt
 disconnect-moved m c fine pb k =
     ask-moved (λ e. let f = found m (fine .frame) (originatorEnd (c .party)) (originatorEnd-fresh (c .party)) (originatorEnd-none (c .party)) (c .a) e in
     let i = f .is in
     let o = originator-end (c .party) (look (c .a) (live m)) (rw i at e) in
     let t = linkOf m (c .a) .tx in
-    let fr₁ = parties-frame m (fine .frame) (doomedIn t (m .parties)) (doom-length t (m .parties) ∙ fine .frame .shape .parties16) in
-    let it : doomedIn t (m .parties) ≡ doomedIn (look (c .a) (live m) .tx) (m .parties) = ap (λ x. doomedIn (x .tx) (m .parties)) i in
+    let fr₁ = parties-frame m (fine .frame) (rollbackOnlyIn t (m .parties)) (rollbackOnlyIn-length t (m .parties) ∙ fine .frame .shape .parties16) in
+    let it : rollbackOnlyIn t (m .parties) ≡ rollbackOnlyIn (look (c .a) (live m) .tx) (m .parties) = ap (λ x. rollbackOnlyIn (x .tx) (m .parties)) i in
     byTest (λ (x : Monitor). Moved m c (valued x 0))
-    (λ w. let l′ = cutOff (linkOf m (c .a)) in
-    let s = changed-same (doom m t) fr₁ (c .a) (f .there′) l′ (f .number) in
-    hang-moved m c fine k (o .attached) (f .there′) (changed (doom m t) (c .a) l′) (changed-parties (doom m t) (c .a) l′ ∙ it)
-    (changed-frame (doom m t) fr₁ (c .a) (f .there′) l′ (f .number)) (changed-clock (doom m t) (c .a) l′)
-    (record { link = changed-lastlink (doom m t) (c .a) l′; tx = changed-lasttx (doom m t) (c .a) l′ })
-    (rw (s, i) (cutOff-left _)) (λ y. rw (s, i) y) (changed-other (doom m t) fr₁ (c .a) (f .there′) l′ (f .number)))
-    (λ w. hang-moved m c fine k (o .attached) (f .there′) (removed (doom m t) (c .a)) (removed-parties (doom m t) (c .a) ∙ it)
-    (removed-frame (doom m t) fr₁ (c .a)) (removed-clock (doom m t) (c .a))
-    (record { link = removed-lastlink (doom m t) (c .a); tx = removed-lasttx (doom m t) (c .a) })
-    (Left.gone (removed-same (doom m t) fr₁ (c .a))) (λ y. not-both y (rw i at w)) (removed-other (doom m t) fr₁ (c .a))))
+    (λ w. let l′ = disconnectedLink (linkOf m (c .a)) in
+    let s = changed-same (rollbackOnlyTx m t) fr₁ (c .a) (f .there′) l′ (f .number) in
+    disconnects-moved m c fine k (o .attached) (f .there′) (changed (rollbackOnlyTx m t) (c .a) l′) (changed-parties (rollbackOnlyTx m t) (c .a) l′ ∙ it)
+    (changed-frame (rollbackOnlyTx m t) fr₁ (c .a) (f .there′) l′ (f .number)) (changed-clock (rollbackOnlyTx m t) (c .a) l′)
+    (record { link = changed-lastlink (rollbackOnlyTx m t) (c .a) l′; tx = changed-lasttx (rollbackOnlyTx m t) (c .a) l′ })
+    (rw (s, i) (disconnectedLink-left _)) (λ y. rw (s, i) y) (changed-other (rollbackOnlyTx m t) fr₁ (c .a) (f .there′) l′ (f .number)))
+    (λ w. disconnects-moved m c fine k (o .attached) (f .there′) (removed (rollbackOnlyTx m t) (c .a)) (removed-parties (rollbackOnlyTx m t) (c .a) ∙ it)
+    (removed-frame (rollbackOnlyTx m t) fr₁ (c .a)) (removed-clock (rollbackOnlyTx m t) (c .a))
+    (record { link = removed-lastlink (rollbackOnlyTx m t) (c .a); tx = removed-lasttx (rollbackOnlyTx m t) (c .a) })
+    (Left.gone (removed-same (rollbackOnlyTx m t) fr₁ (c .a))) (λ y. not-both y (rw i at w)) (removed-other (rollbackOnlyTx m t) fr₁ (c .a))))
     (λ _. refused noSuchEnd refl fine)

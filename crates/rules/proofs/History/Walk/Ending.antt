@@ -5,7 +5,7 @@ use mathlib.Core.Bool.{true, false, _||_}
 use Prim.Native.Nat.{ℕ, _<_}
 use lib.ListN.{set, length-set}
 use Rattle.rules.specs.Choice.{same}
-use Rattle.rules.specs.Record.{isAttached, isWaiting, isWorking, isNotified, party, live, owningNone, closed, cutOff}
+use Rattle.rules.specs.Record.{isAttached, isWaiting, isWorking, isNotified, party, live, owningNone, closed, disconnectedLink}
 use Rattle.rules.specs.Transaction.{orphaned, endOf, endTx}
 use Rattle.rules.specs.declared.Link.{Link}
 use Rattle.rules.specs.declared.Monitor.{Monitor}
@@ -15,7 +15,7 @@ use Rattle.rules.proofs.Fine.{noLink, look, Frame}
 use Rattle.rules.proofs.Changes.{Thin, none, one, Thins, leftIn, leftBy, collected-look, collected-frame}
 use Rattle.rules.proofs.History.Moves.{isWhole, Left, gone, Ends, Shut, shut}
 use Rattle.rules.proofs.History.Left.{left-refl}
-use Rattle.rules.proofs.History.Walk.LinkChanges.{working-waits-not, notified-cut, noLink-attached, noLink-waiting, noLink-working, closed-shut, cutOff-shut}
+use Rattle.rules.proofs.History.Walk.LinkChanges.{working-waits-not, notified-not-whole, noLink-attached, noLink-waiting, noLink-working, closed-shut, disconnectedLink-shut}
 use Rattle.rules.proofs.History.Walk.Base.{OwnOnly, own-set, own-all}
 
 -- ---- a link fades: it stays, it is gone, or its end is shut
@@ -59,7 +59,7 @@ abbrev pub endLeft : ℕ → Link → Link
 endLeft t l = leftBy (endOf t) l
 
 -- a statement of what is left, by what becomes of the link
-orphaned-by : (X : Link → Type 0) (l : Link) → X (closed l) → (isNotified l ≡ true → X l) → X (cutOff l) → X (orphaned l)
+orphaned-by : (X : Link → Type 0) (l : Link) → X (closed l) → (isNotified l ≡ true → X l) → X (disconnectedLink l) → X (orphaned l)
 unfolding orphaned
 orphaned-by X l a b c = byTest X (λ _. a) (λ _. byTest X b (λ _. c))
 
@@ -73,7 +73,7 @@ end-thins t l = byTest (Thin l) (λ _. byTest (Thin l) (λ _. one (orphaned l) (
 
 pub end-fade : (t : ℕ) (l x : Link) → Fade l x → Fade l (endLeft t x)
 end-fade t l x f = end-by (Fade l) t x
-    (λ w. orphaned-by (Fade l) x (fade-shut l x _ f (closed-shut x) w) (λ _. f) (fade-shut l x _ f (cutOff-shut x) w))
+    (λ w. orphaned-by (Fade l) x (fade-shut l x _ f (closed-shut x) w) (λ _. f) (fade-shut l x _ f (disconnectedLink-shut x) w))
     (λ _. goes refl) (λ _. f)
 
 -- a working link works on
@@ -83,13 +83,13 @@ Works l = isWorking l ≡ true
 pub end-works : (t : ℕ) (l : Link) → Works l → Works (endLeft t l)
 end-works t l w = end-by Works t l (λ _. orphaned-by Works l w (λ _. w) w) (λ n. not-both w n) (λ _. w)
 
--- a link of t is neither open nor waiting, where a cut one was not open
+-- a link of t is neither open nor waiting, where a disconnected one was not open
 abbrev pub Dull : Link → Type 0
 Dull l = isAttached l || isWaiting l ≡ false
 
 pub end-swept : (t : ℕ) (l : Link) → (isWhole l ≡ false → isAttached l ≡ false) → l .tx ≡ t → Dull (endLeft t l)
 end-swept t l h e = end-by Dull t l
-    (λ w. let n = working-waits-not l w in orphaned-by Dull l n (λ c. rw (h (notified-cut l c)) n) n)
+    (λ w. let n = working-waits-not l w in orphaned-by Dull l n (λ c. rw (h (notified-not-whole l c)) n) n)
     (λ _. rw noLink-attached noLink-waiting)
     (λ n. not-both (rw e (same-refl t)) n)
 

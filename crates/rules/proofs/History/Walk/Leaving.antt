@@ -8,16 +8,16 @@ use lib.ListN.{getD}
 use borrow.Author.Tests.{eqb-true}
 use Rattle.rules.specs.Choice.{pick, same}
 use Rattle.rules.specs.Record.{freshParty, isConversation, isAttached, ownEnd, party, live, linkOf, owningNone, rollbackOnly, returned, changed}
-use Rattle.rules.specs.Transaction.{doom, endTx}
+use Rattle.rules.specs.Transaction.{rollbackOnlyTx, endTx}
 use Rattle.rules.specs.Conversations.{originatorEnd}
-use Rattle.rules.specs.Return.{closeEnd, doomedBy, closeOwn, endOwn, doomServed, handBack}
+use Rattle.rules.specs.Return.{closeEnd, rollbackOnlyBy, closeOwn, endOwn, rollbackOnlyServed, handBack}
 use Rattle.rules.specs.declared.Link.{Link}
 use Rattle.rules.specs.declared.Party.{Party}
 use Rattle.rules.specs.declared.Monitor.{Monitor}
 use Rattle.rules.proofs.Logic.{byTest, test, pick-true, pick-false, and-l, and-r, same-true, Nz}
 use Rattle.rules.proofs.Fine.{look, Frame}
 use Rattle.rules.proofs.Looks.{look-number, there, linkOf-look, look-linkOf}
-use Rattle.rules.proofs.Parties.{doom-length, doom-either, doom-miss, doom-hit, doomedBy-length, doomedBy-either, doomedBy-miss, Marks, plain, marked, marks-more, marks-owned, doom-free, doomedBy-free}
+use Rattle.rules.proofs.Parties.{rollbackOnlyIn-length, rollbackOnlyIn-either, rollbackOnlyIn-miss, rollbackOnlyIn-hit, rollbackOnlyBy-length, rollbackOnlyBy-either, rollbackOnlyBy-miss, Marks, plain, marked, marks-more, marks-owned, rollbackOnlyIn-free, rollbackOnlyBy-free}
 use Rattle.rules.proofs.Changes.{leftBy, parties-frame, changed-clock, changed-lastlink, changed-lasttx, changed-parties, changed-same, changed-other, changed-frame, collected-look, collected-frame, removed-same, removed-other, removed-frame, removed-clock, removed-lastlink, removed-lasttx, removed-parties}
 use Rattle.rules.proofs.History.Walk.LinkChanges.{noLink-attached}
 use Rattle.rules.proofs.History.Walk.Ending.{endLeft, end-own, end-frame, end-look}
@@ -39,24 +39,24 @@ changed-numbers m d l = record { clock′ = changed-clock m d l; lastlink′ = c
 module _ (m : Monitor) (fr : Frame m) (p : ℕ) where
   closed-look : (e : ℕ) → look e (live (closeOwn m p)) ≡ leftBy (closeEnd p) (look e (live m))
   unfolding closeOwn
-  closed-look e = collected-look (closeEnd p) (close-thin p) m fr (doomedBy p (live m) (m .parties)) (close-no p) e
+  closed-look e = collected-look (closeEnd p) (close-thin p) m fr (rollbackOnlyBy p (live m) (m .parties)) (close-no p) e
 
   closed-frame : Frame (closeOwn m p)
   unfolding closeOwn
-  closed-frame = collected-frame (closeEnd p) (close-thin p) m fr _ (doomedBy-length p (live m) (m .parties) ∙ fr .shape .parties16)
+  closed-frame = collected-frame (closeEnd p) (close-thin p) m fr _ (rollbackOnlyBy-length p (live m) (m .parties) ∙ fr .shape .parties16)
 
   closed-marks : (q : ℕ) → Marks (party m q) (party (closeOwn m p) q)
   unfolding closeOwn
-  closed-marks q = doomedBy-either p (Marks (party m q)) (marks-more (party m q)) q (live m) (m .parties) (plain refl)
+  closed-marks q = rollbackOnlyBy-either p (Marks (party m q)) (marks-more (party m q)) q (live m) (m .parties) (plain refl)
 
   closed-free : (q : ℕ) → party m q .owned ≡ 0 → party (closeOwn m p) q ≡ party m q
   unfolding closeOwn
-  closed-free q e = doomedBy-free p q (live m) (m .parties) e
+  closed-free q e = rollbackOnlyBy-free p q (live m) (m .parties) e
 
   closed-miss : (q : ℕ) → ((e : ℕ) → isAttached (look e (live m)) ≡ true → look e (live m) .originator ≡ p → look e (live m) .tx ≡ party m q .owned → ⊥)
       → party (closeOwn m p) q ≡ party m q
   unfolding closeOwn originatorEnd ownEnd
-  closed-miss q n = doomedBy-miss p q 0 (m .lastlink) (live m) (fr .rising) (m .parties)
+  closed-miss q n = rollbackOnlyBy-miss p q 0 (m .lastlink) (live m) (fr .rising) (m .parties)
       (λ e a i. let o = and-r (isConversation (look e (live m))) _ a in n e (and-l _ _ o) (same-true _ _ (and-r (isAttached (look e (live m))) _ o)) (sym i))
 
 -- ---- its own transaction ends
@@ -135,36 +135,36 @@ pub shedAll-numbers : (m : Monitor) (p : ℕ) → Numbers m (shedAll m p)
 unfolding closeOwn endOwn endTx
 shedAll-numbers m p = byTest (Numbers m) (λ _. record { clock′ = refl; lastlink′ = refl; lasttx′ = refl }) (λ _. record { clock′ = refl; lastlink′ = refl; lasttx′ = refl })
 
--- ---- the served link's transaction is doomed, unless the outcome is 8
+-- ---- the served link's transaction becomes rollback-only, unless the outcome is 8
 module _ (o t : ℕ) (m : Monitor) where
-  pub doomServed-live : live (doomServed o t m) ≡ live m
-  unfolding doomServed
-  doomServed-live = byTest (λ x. live x ≡ live m) (λ _. refl) (λ _. refl)
+  pub rollbackOnlyServed-live : live (rollbackOnlyServed o t m) ≡ live m
+  unfolding rollbackOnlyServed
+  rollbackOnlyServed-live = byTest (λ x. live x ≡ live m) (λ _. refl) (λ _. refl)
 
-  pub doomServed-numbers : Numbers m (doomServed o t m)
-  unfolding doomServed
-  doomServed-numbers = byTest (Numbers m) (λ _. record { clock′ = refl; lastlink′ = refl; lasttx′ = refl }) (λ _. record { clock′ = refl; lastlink′ = refl; lasttx′ = refl })
+  pub rollbackOnlyServed-numbers : Numbers m (rollbackOnlyServed o t m)
+  unfolding rollbackOnlyServed
+  rollbackOnlyServed-numbers = byTest (Numbers m) (λ _. record { clock′ = refl; lastlink′ = refl; lasttx′ = refl }) (λ _. record { clock′ = refl; lastlink′ = refl; lasttx′ = refl })
 
-  pub doomServed-frame : Frame m → Frame (doomServed o t m)
-  unfolding doomServed
-  doomServed-frame fr = byTest Frame (λ _. fr) (λ _. parties-frame m fr _ (doom-length t (m .parties) ∙ fr .shape .parties16))
+  pub rollbackOnlyServed-frame : Frame m → Frame (rollbackOnlyServed o t m)
+  unfolding rollbackOnlyServed
+  rollbackOnlyServed-frame fr = byTest Frame (λ _. fr) (λ _. parties-frame m fr _ (rollbackOnlyIn-length t (m .parties) ∙ fr .shape .parties16))
 
   -- a party as it was, or marked, before: so after
-  pub doomServed-marks : (x : Party) (q : ℕ) → Marks x (party m q) → Marks x (party (doomServed o t m) q)
-  unfolding doomServed
-  doomServed-marks x q k = byTest (λ y. Marks x (party y q)) (λ _. k) (λ _. doom-either t (Marks x) q (m .parties) k (marks-more x _ k))
+  pub rollbackOnlyServed-marks : (x : Party) (q : ℕ) → Marks x (party m q) → Marks x (party (rollbackOnlyServed o t m) q)
+  unfolding rollbackOnlyServed
+  rollbackOnlyServed-marks x q k = byTest (λ y. Marks x (party y q)) (λ _. k) (λ _. rollbackOnlyIn-either t (Marks x) q (m .parties) k (marks-more x _ k))
 
-  pub doomServed-free : (q : ℕ) → party m q .owned ≡ 0 → party (doomServed o t m) q ≡ party m q
-  unfolding doomServed
-  doomServed-free q z = byTest (λ y. party y q ≡ party m q) (λ _. refl) (λ _. doom-free t q (m .parties) z)
+  pub rollbackOnlyServed-free : (q : ℕ) → party m q .owned ≡ 0 → party (rollbackOnlyServed o t m) q ≡ party m q
+  unfolding rollbackOnlyServed
+  rollbackOnlyServed-free q z = byTest (λ y. party y q ≡ party m q) (λ _. refl) (λ _. rollbackOnlyIn-free t q (m .parties) z)
 
-  pub doomServed-hit : (q : ℕ) → eqb o 8 ≡ false → Nz t → party m q .owned ≡ t → ((r : ℕ) → party m r .owned ≡ t → r ≡ q) → party (doomServed o t m) q ≡ rollbackOnly (party m q)
-  unfolding doomServed
-  doomServed-hit q z n e u = let dooms : doomServed o t m ≡ doom m t = unfold pick in rw z in ap (λ x. party x q) dooms ∙ doom-hit t n q (m .parties) e u
+  pub rollbackOnlyServed-hit : (q : ℕ) → eqb o 8 ≡ false → Nz t → party m q .owned ≡ t → ((r : ℕ) → party m r .owned ≡ t → r ≡ q) → party (rollbackOnlyServed o t m) q ≡ rollbackOnly (party m q)
+  unfolding rollbackOnlyServed
+  rollbackOnlyServed-hit q z n e u = let marks : rollbackOnlyServed o t m ≡ rollbackOnlyTx m t = unfold pick in rw z in ap (λ x. party x q) marks ∙ rollbackOnlyIn-hit t n q (m .parties) e u
 
-  pub doomServed-miss : (q : ℕ) → (eqb o 8 ≡ false → party m q .owned ≡ t → ⊥) → party (doomServed o t m) q ≡ party m q
-  unfolding doomServed
-  doomServed-miss q n = byTest (λ y. party y q ≡ party m q) (λ _. refl) (λ z. doom-miss t q (m .parties) (n z))
+  pub rollbackOnlyServed-miss : (q : ℕ) → (eqb o 8 ≡ false → party m q .owned ≡ t → ⊥) → party (rollbackOnlyServed o t m) q ≡ party m q
+  unfolding rollbackOnlyServed
+  rollbackOnlyServed-miss q n = byTest (λ y. party y q ≡ party m q) (λ _. refl) (λ z. rollbackOnlyIn-miss t q (m .parties) (n z))
 
 -- ---- the served link, d, goes back
 module _ (m : Monitor) (fr : Frame m) (d o e : ℕ) where

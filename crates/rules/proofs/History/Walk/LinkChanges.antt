@@ -7,7 +7,7 @@ use Prim.Native.Nat.{ℕ, _+_, _-_, _<_}
 use native.Mathlib.Omega.{arith}
 use lib.Dec.{eqb, leb, ltb}
 use borrow.Author.Tests.{eqb-true, leb-true, ltb-true, le-leb}
-use Rattle.rules.specs.Record.{isAttached, isWaiting, isWorking, isReturned, isDisconnected, isNotified, ownEnd, withEnds, withUnread, closed, dropped, cutOff, notified, newLink, working, returned, withSent, withoutOldest}
+use Rattle.rules.specs.Record.{isAttached, isWaiting, isWorking, isReturned, isDisconnected, isNotified, ownEnd, withEnds, withUnread, closed, dropped, disconnectedLink, notified, newLink, working, returned, withSent, withoutOldest}
 use Rattle.rules.specs.Sound.{linkGood}
 use Rattle.rules.specs.declared.Link.{Link}
 use Rattle.rules.proofs.Logic.{test, not-both, and-l, and-r, and-true, not-true, or-cases, or-true, same-refl}
@@ -93,12 +93,12 @@ working-waits-not l e = let r : l .state ≡ 1 = eqb-true (l .state) 1 e in rw r
 pub working-returned-not : (l : Link) → isWorking l ≡ true → isReturned l ≡ false
 working-returned-not l e = let r : l .state ≡ 1 = eqb-true (l .state) 1 e in rw r
 
--- cut, or told of it
-pub disconnected-cut : (l : Link) → isDisconnected l ≡ true → isWhole l ≡ false
-disconnected-cut l e = let r : l .disconnected ≡ 1 = eqb-true (l .disconnected) 1 e in rw r
+-- disconnected, or its server notified of it
+pub disconnected-not-whole : (l : Link) → isDisconnected l ≡ true → isWhole l ≡ false
+disconnected-not-whole l e = let r : l .disconnected ≡ 1 = eqb-true (l .disconnected) 1 e in rw r
 
-pub notified-cut : (l : Link) → isNotified l ≡ true → isWhole l ≡ false
-notified-cut l e = let r : l .disconnected ≡ 2 = eqb-true (l .disconnected) 2 e in rw r
+pub notified-not-whole : (l : Link) → isNotified l ≡ true → isWhole l ≡ false
+notified-not-whole l e = let r : l .disconnected ≡ 2 = eqb-true (l .disconnected) 2 e in rw r
 
 -- a good link that is returned has an outcome
 pub returned-ending : (l : Link) → linkGood l ≡ true → isReturned l ≡ true → isEnding (l .outcome) ≡ true
@@ -128,7 +128,7 @@ adjusted-good l a s g d f u c k = let h = parts l k in let n = c h in whole (adj
   ended = h .ended;
 })
 
--- it is alike, where the end and whether it is cut are the same
+-- it is alike, where the end and whether it is disconnected are the same
 adjusted-like : (l : Link) {a s g d f : ℕ} {u : List ℕ} → GoodChoices l a s g d f → a ≡ l .attached → eqb d 0 ≡ isWhole l → Like l (adjusted l a s g d u f)
 adjusted-like l {a} {s} {g} {d} {f} {u} c o w = record {
   number′ = refl;
@@ -162,21 +162,21 @@ adjusted-shut l {a} {s} {g} {d} {f} {u} c o r = record {
 pub closed-shut : (l : Link) → Shut l (closed l)
 closed-shut l = adjusted-shut l (λ h. (refl, h .sender, h .granting, h .disconnected, h .filled)) refl refl
 
-pub cutOff-shut : (l : Link) → Shut l (cutOff l)
-cutOff-shut l = adjusted-shut l (λ h. (refl, h .sender, refl, refl, refl)) refl refl
+pub disconnectedLink-shut : (l : Link) → Shut l (disconnectedLink l)
+disconnectedLink-shut l = adjusted-shut l (λ h. (refl, h .sender, refl, refl, refl)) refl refl
 
 pub closed-left : (l : Link) → Left l (closed l)
 closed-left l = Left.shut (closed-shut l)
 
-pub cutOff-left : (l : Link) → Left l (cutOff l)
-cutOff-left l = Left.shut (cutOff-shut l)
+pub disconnectedLink-left : (l : Link) → Left l (disconnectedLink l)
+disconnectedLink-left l = Left.shut (disconnectedLink-shut l)
 
 -- alike but for what is unread, the grant and the sender
 pub dropped-like : (l : Link) → Like l (dropped l)
 dropped-like l = adjusted-like l (λ h. (h .attached, h .sender, refl, h .disconnected, refl)) refl refl
 
 pub notified-like : (l : Link) → isDisconnected l ≡ true → Like l (notified l)
-notified-like l c = adjusted-like l (λ h. (h .attached, h .sender, h .granting, refl, h .filled)) refl (sym (disconnected-cut l c))
+notified-like l c = adjusted-like l (λ h. (h .attached, h .sender, h .granting, refl, h .filled)) refl (sym (disconnected-not-whole l c))
 
 pub withSent-like : (l : Link) (b c : ℕ) → leb b 1 ≡ true → ltb (l .filled) 4 ≡ true → Like l (withSent l b c)
 withSent-like l b c s r = adjusted-like l

@@ -7,7 +7,7 @@ use Rattle.rules.specs.Choice.{same}
 use Rattle.rules.specs.Record.{isOpened, party, live}
 use Rattle.rules.specs.Transaction.{deadlineOf}
 use Rattle.rules.specs.Sound.{choicesGood}
-use Rattle.rules.specs.Step.{told}
+use Rattle.rules.specs.Step.{answeredTo}
 use Rattle.rules.specs.History.{Event, ofKind, accepted, past21}
 use Rattle.rules.specs.declared.Call.{Call}
 use Rattle.rules.specs.declared.Monitor.{Monitor}
@@ -20,7 +20,7 @@ use Rattle.rules.proofs.History.Moves.{Move}
 
 -- the call and its answer
 unfoldable pub eventOf : Call → Ruled → Event
-eventOf c r = record { call = c; answer = told r (c .party) .answer }
+eventOf c r = record { call = c; answer = answeredTo r (c .party) .answer }
 
 -- another party's fields stay, but for the mark
 pub record Stays (x y : Party) : Type 0 where

@@ -8,7 +8,7 @@ use lib.ListN.{getD}
 use borrow.Author.Tests.{eqb-true}
 use Rattle.rules.specs.Choice.{same}
 use Rattle.rules.specs.Record.{freshParty, isRollbackOnly, isAttached, isWaiting, isWorking, party, live, linkOf, serving, withParty, changed}
-use Rattle.rules.specs.Return.{unreadAfter, doomServed, servesNone, handBack, leave}
+use Rattle.rules.specs.Return.{unreadAfter, rollbackOnlyServed, servesNone, handBack, leave}
 use Rattle.rules.specs.declared.Link.{Link}
 use Rattle.rules.specs.declared.Party.{Party}
 use Rattle.rules.specs.declared.Monitor.{Monitor}
@@ -20,7 +20,7 @@ use Rattle.rules.proofs.Changes.{changed-parties, changed-same, changed
 use Rattle.rules.proofs.History.Moves.{isWhole, isEnding, Like}
 use Rattle.rules.proofs.History.Left.{like-refl}
 use Rattle.rules.proofs.History.Walk.Parting.{partLeft, handLeft, Closing, part-closing, part-works, part-dull, unread-like, hand-closing}
-use Rattle.rules.proofs.History.Walk.Leaving.{Numbers, numbers-then, changed-numbers, shed, shed-owned, shedAll, shedAll-frame, shedAll-look, shedAll-self, shedAll-marks, shedAll-free, shedAll-miss, shedAll-numbers, doomServed-live, doomServed-numbers, doomServed-frame, doomServed-marks, doomServed-free, doomServed-miss, doomServed-hit, handBack-frame, handBack-self, handBack-other, handBack-numbers, handBack-party}
+use Rattle.rules.proofs.History.Walk.Leaving.{Numbers, numbers-then, changed-numbers, shed, shed-owned, shedAll, shedAll-frame, shedAll-look, shedAll-self, shedAll-marks, shedAll-free, shedAll-miss, shedAll-numbers, rollbackOnlyServed-live, rollbackOnlyServed-numbers, rollbackOnlyServed-frame, rollbackOnlyServed-marks, rollbackOnlyServed-free, rollbackOnlyServed-miss, rollbackOnlyServed-hit, handBack-frame, handBack-self, handBack-other, handBack-numbers, handBack-party}
 
 -- party p has left m, with a failed end or not, and is x in m′
 pub record Parted (m m′ : Monitor) (p : ℕ) (bad : Bool) (x : Party) : Type 0 where
@@ -99,7 +99,7 @@ module _ (m : Monitor) (fi : Fine m) (p : ℕ) (b : p < 16) (s : Nz (party m p .
   m3 = shedAll m1 p
 
   abbrev m4 : Monitor
-  m4 = doomServed o (linkOf m d .tx) m3
+  m4 = rollbackOnlyServed o (linkOf m d .tx) m3
 
   abbrev m5 : Monitor
   m5 = servesNone m4 p
@@ -142,9 +142,9 @@ module _ (m : Monitor) (fi : Fine m) (p : ℕ) (b : p < 16) (s : Nz (party m p .
   miss3 q y f = shedAll-miss m1 frame1 p b q y
       (λ i a r t. f i (rw (like1 i .attached′) at a) (sym (like1 i .originator′) ∙ r) (sym (like1 i .tx′) ∙ t ∙ ap (λ x. x .owned) (party1 q))) ∙ party1 q
 
-  -- the served transaction doomed, and the party serving none
+  -- the served transaction rollback-only, and the party serving none
   frame4 : Frame m4
-  frame4 = doomServed-frame o (linkOf m d .tx) m3 (shedAll-frame m1 frame1 p b)
+  frame4 = rollbackOnlyServed-frame o (linkOf m d .tx) m3 (shedAll-frame m1 frame1 p b)
 
   frame5 : Frame m5
   unfolding servesNone
@@ -152,7 +152,7 @@ module _ (m : Monitor) (fi : Fine m) (p : ℕ) (b : p < 16) (s : Nz (party m p .
 
   look5 : (i : ℕ) → look i (live m5) ≡ partLeft p (party m p .owned) (look i (live m1))
   unfolding servesNone
-  look5 i = ap (look i) (doomServed-live o (linkOf m d .tx) m3) ∙ shedAll-look m1 frame1 p b i ∙ ap (λ x. partLeft p (x .owned) (look i (live m1))) (party1 p)
+  look5 i = ap (look i) (rollbackOnlyServed-live o (linkOf m d .tx) m3) ∙ shedAll-look m1 frame1 p b i ∙ ap (λ x. partLeft p (x .owned) (look i (live m1))) (party1 p)
 
   other5 : (q : ℕ) → same q p ≡ false → party m5 q ≡ party m4 q
   unfolding servesNone
@@ -160,7 +160,7 @@ module _ (m : Monitor) (fi : Fine m) (p : ℕ) (b : p < 16) (s : Nz (party m p .
 
   self5 : party m5 p ≡ serving (shed (party m p)) 0
   unfolding servesNone
-  self5 = party-same m4 (frame4 .shape) p b (serving (party m4 p) 0) ∙ ap (λ x. serving x 0) (doomServed-free o (linkOf m d .tx) m3 p owned3 ∙ self3)
+  self5 = party-same m4 (frame4 .shape) p b (serving (party m4 p) 0) ∙ ap (λ x. serving x 0) (rollbackOnlyServed-free o (linkOf m d .tx) m3 p owned3 ∙ self3)
 
   -- the link back
   self6 : look d (live (handBack m5 d o e)) ≡ handLeft o e (partLeft p (party m p .owned) (unreadAfter o l))
@@ -174,7 +174,7 @@ module _ (m : Monitor) (fi : Fine m) (p : ℕ) (b : p < 16) (s : Nz (party m p .
 
   numbers5 : Numbers m m5
   unfolding servesNone
-  numbers5 = let k = numbers-then (changed-numbers m d (unreadAfter o (linkOf m d))) (numbers-then (shedAll-numbers m1 p) (doomServed-numbers o (linkOf m d .tx) m3)) in
+  numbers5 = let k = numbers-then (changed-numbers m d (unreadAfter o (linkOf m d))) (numbers-then (shedAll-numbers m1 p) (rollbackOnlyServed-numbers o (linkOf m d .tx) m3)) in
       record { clock′ = k .clock′; lastlink′ = k .lastlink′; lasttx′ = k .lasttx′ }
 
   only : (q : ℕ) → party m q .owned ≡ l .tx → Nz (party m q .owned) → ((r : ℕ) → party m r .owned ≡ party m q .owned → r ≡ q)
@@ -195,11 +195,11 @@ module _ (m : Monitor) (fi : Fine m) (p : ℕ) (b : p < 16) (s : Nz (party m p .
     works′ = λ i y w. rw (other6 i y) (part-works p (party m p .owned) (look i (live m)) w);
     ended′ = λ i y c z t. rw (other6 i y) (part-dull p (party m p .owned) (look i (live m)) c z t);
     self = handBack-party m5 d o e p ∙ self5;
-    marks = λ q y. rw (party6 q y) (doomServed-marks o (linkOf m d .tx) m3 (party m q) q (marks3 q y));
-    free = λ q y z. party6 q y ∙ doomServed-free o (linkOf m d .tx) m3 q (ap (λ x. x .owned) (free3 q y z) ∙ z) ∙ free3 q y z;
+    marks = λ q y. rw (party6 q y) (rollbackOnlyServed-marks o (linkOf m d .tx) m3 (party m q) q (marks3 q y));
+    free = λ q y z. party6 q y ∙ rollbackOnlyServed-free o (linkOf m d .tx) m3 q (ap (λ x. x .owned) (free3 q y z) ∙ z) ∙ free3 q y z;
     miss = λ q y f g. party6 q y
-        ∙ doomServed-miss o (linkOf m d .tx) m3 q (λ z i. f (sym (marks-owned (party m q) (party m3 q) (marks3 q y)) ∙ i ∙ linkOf-tx m d) (not-8-bad o n z))
+        ∙ rollbackOnlyServed-miss o (linkOf m d .tx) m3 q (λ z i. f (sym (marks-owned (party m q) (party m3 q) (marks3 q y)) ∙ i ∙ linkOf-tx m d) (not-8-bad o n z))
         ∙ miss3 q y g;
-    hit = λ q y a t z u. ap (λ x. isRollbackOnly x) (party6 q y ∙ doomServed-hit o (linkOf m d .tx) m3 q (bad-8 o a)
+    hit = λ q y a t z u. ap (λ x. isRollbackOnly x) (party6 q y ∙ rollbackOnlyServed-hit o (linkOf m d .tx) m3 q (bad-8 o a)
         (rw (linkOf-tx m d, ← t) z) (marks-owned (party m q) (party m3 q) (marks3 q y) ∙ t ∙ sym (linkOf-tx m d)) (only q t z u));
   }

@@ -13,7 +13,7 @@ use Rattle.rules.proofs.Fine.{noLink}
 use Rattle.rules.proofs.Changes.{Thin, Thins, none, one, leftIn, leftBy}
 use Rattle.rules.proofs.History.Moves.{isWhole, isEnding, Like, Back, Left, gone, back}
 use Rattle.rules.proofs.History.Left.{like-refl}
-use Rattle.rules.proofs.History.Walk.LinkChanges.{noLink-attached, noLink-waiting, working-returned-not, closed-shut, cutOff-shut, dropped-like, returned-back, own-end, noLink-own}
+use Rattle.rules.proofs.History.Walk.LinkChanges.{noLink-attached, noLink-waiting, working-returned-not, closed-shut, disconnectedLink-shut, dropped-like, returned-back, own-end, noLink-own}
 use Rattle.rules.proofs.History.Walk.Ending.{endLeft, end-works, end-swept, end-spared, end-none, Fade, stays, goes, shuts, fade-left, fade-open, end-fade, Works, Dull}
 
 -- both come to pass
@@ -40,7 +40,7 @@ close-fade : (p : ℕ) (l : Link) → Fade l (leftBy (closeEnd p) l)
 unfolding closeEnd leftIn
 close-fade p l = byTest (λ xs. Fade l (leftIn xs))
     (λ _. byTest (λ xs. Fade l (leftIn xs))
-    (λ _. byTest (λ xs. Fade l (leftIn xs)) (λ _. shuts (cutOff-shut l)) (λ _. goes refl))
+    (λ _. byTest (λ xs. Fade l (leftIn xs)) (λ _. shuts (disconnectedLink-shut l)) (λ _. goes refl))
     (λ _. byTest (λ xs. Fade l (leftIn xs)) (λ _. goes refl) (λ _. shuts (closed-shut l))))
     (λ _. stays refl)
 

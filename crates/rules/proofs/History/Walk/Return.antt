@@ -64,7 +64,7 @@ module _ (m m′ : Monitor) (p : ℕ) (bad : Bool) (x : Party) (fi : Fine m) (h 
     pOpen = λ e i. h .closing e .own i;
     pEnded = λ e z i. test (same e (party m p .served))
         (λ y. let r : e ≡ party m p .served = same-true _ _ y in absurd (apart s (rw r at i) z))
-        (λ y. h .ended′ e y (s .cutShut e) z i);
+        (λ y. h .ended′ e y (s .disconnectedShut e) z i);
     owned′ = λ q n. marks-owned _ _ (h .marks q n);
     served′ = λ q n. marks-served _ _ (h .marks q n);
     grows = λ q n r. marks-grow _ _ (h .marks q n) r;
@@ -158,10 +158,10 @@ module _ (m : Monitor) (c : Call) (fi : Fine m) (b : c .party < 16) where
       (λ _. refused notAllowedNow refl fi)
 
   -- ---- 21
-  fell-moved : (m′ : Monitor) (v : ℕ) (x : Party) → c .kind ≡ 21 → Parted m m′ (c .party) (isBad v) x
+  died-moved : (m′ : Monitor) (v : ℕ) (x : Party) → c .kind ≡ 21 → Parted m m′ (c .party) (isBad v) x
       → ((i : ℕ) → Nz (party m (c .party) .served) → isAttached (look i (live m)) ≡ true → look i (live m) .originator ≡ c .party → isBad v ≡ true)
       → Moved m c (valued (withParty m′ (c .party) freshParty) v)
-  fell-moved m′ v x k h bo = parted-moved m _ c v freshParty fi (rw k) (parted-as m m′ (c .party) (isBad v) x freshParty b h)
+  died-moved m′ v x k h bo = parted-moved m _ c v freshParty fi (rw k) (parted-as m m′ (c .party) (isBad v) x freshParty b h)
       refl refl (λ _. refl) (λ _. refl) (sym (time-none c _ _ (rw k) refl)) bo
 
   -- it served none, or a link
@@ -174,5 +174,5 @@ module _ (m : Monitor) (c : Call) (fi : Fine m) (b : c .party < 16) where
   pub terminate-moved : c .kind ≡ 21 → Moved m c (terminateOf m (c .party))
   unfolding terminateOf diedOut same
   terminate-moved k = either-moved (eqb (party m (c .party) .served) 0) _ _ _ _
-      (λ z. fell-moved _ _ _ k (shed-parted m (fi .frame) (c .party) b) (λ _ s. not-both z s))
-      (λ z. fell-moved _ _ _ k (leave-parted m fi (c .party) b z _ _ refl) (λ _ _ _ _. refl))
+      (λ z. died-moved _ _ _ k (shed-parted m (fi .frame) (c .party) b) (λ _ s. not-both z s))
+      (λ z. died-moved _ _ _ k (leave-parted m fi (c .party) b z _ _ refl) (λ _ _ _ _. refl))

@@ -8,7 +8,7 @@ use lib.IntN.{ℤ, pos}
 use borrow.Author.Tests.{eqb-true, ne-eqb}
 use Rattle.rules.specs.Choice.{same}
 use Rattle.rules.specs.Transaction.{txOf}
-use Rattle.rules.specs.Step.{told}
+use Rattle.rules.specs.Step.{answeredTo}
 use Rattle.rules.specs.History.{ofKind, sameCode, unheard, answeredBy, withValue, withEvent, accepted, past21, linkOn, flag2, endsIn}
 use Rattle.rules.specs.declared.Call.{Call}
 use Rattle.rules.specs.declared.Ruled.{Ruled}
@@ -57,20 +57,20 @@ fetched-past z h = or-cases (sameCode (pos 0) z) _ h (of-code Past (pos 0) z ref
 module _ (c : Call) (r : Ruled) where
   -- ---- the value: by the code, the value, and the kind
   pub says-accepted : {t : Tell} → r .code ≡ pos 0 → tellOf (eventOf c r) ≡ t → Says c r t
-  unfolding eventOf told past21 accepted answeredBy
+  unfolding eventOf answeredTo past21 accepted answeredBy
   says-accepted z e = record { past = rw z; valueless = λ _ n. not-both (rw z) n; tells = e }
 
   pub says-valueless : {t : Tell} → r .value ≡ 0 → isPast (r .code) ≡ true → tellOf (eventOf c r) ≡ t → Says c r t
-  unfolding eventOf told past21
+  unfolding eventOf answeredTo past21
   says-valueless v z e = record { past = z; valueless = λ _ _. v; tells = e }
 
   pub says-by-kind : {t : Tell} → eqb (c .kind) 20 || eqb (c .kind) 21 ≡ false → isPast (r .code) ≡ true → tellOf (eventOf c r) ≡ t → Says c r t
-  unfolding eventOf told past21 ofKind
+  unfolding eventOf answeredTo past21 ofKind
   says-by-kind k z e = record { past = z; valueless = λ y _. not-both y k; tells = e }
 
   -- ---- nothing: by the code, and by the kind
   tells-silent : isSilent (r .code) ≡ true → tellOf (eventOf c r) ≡ nothing
-  unfolding tellOf endingEvent eventOf told accepted answeredBy
+  unfolding tellOf endingEvent eventOf answeredTo accepted answeredBy
   tells-silent h =
       let n = not-true _ h in
       let n29 = or-r (sameCode (pos 0) (r .code)) _ n in
@@ -95,26 +95,26 @@ module _ (c : Call) (r : Ruled) where
   -- a link of the caller's transaction
   pub says-made : eqb (c .kind) 12 || eqb (c .kind) 13 ≡ true → r .code ≡ pos 0 → flag2 (c .b) ≡ false → Nz (txOf (r .monitor) (c .party))
       → Says c r (made (r .value))
-  unfolding tellOf ofKind eventOf told accepted answeredBy endsIn same
+  unfolding tellOf ofKind eventOf answeredTo accepted answeredBy endsIn same
   says-made k z f t = says-accepted z (rw (k, z, f, t))
 
   -- a link of no transaction
   pub says-made-flagged : eqb (c .kind) 12 || eqb (c .kind) 13 ≡ true → r .code ≡ pos 0 → flag2 (c .b) ≡ true → Says c r nothing
-  unfolding tellOf ofKind eventOf told accepted answeredBy
+  unfolding tellOf ofKind eventOf answeredTo accepted answeredBy
   says-made-flagged k z f = says-accepted z (rw (k, z, f))
 
   pub says-made-free : eqb (c .kind) 12 || eqb (c .kind) 13 ≡ true → r .code ≡ pos 0 → txOf (r .monitor) (c .party) ≡ 0 → Says c r nothing
-  unfolding tellOf ofKind eventOf told accepted answeredBy endsIn
+  unfolding tellOf ofKind eventOf answeredTo accepted answeredBy endsIn
   says-made-free k z t = says-accepted z (rw (k, z, t, and-false (not (flag2 (c .b)))))
 
   -- ---- 14
   pub says-taken : c .kind ≡ 14 → r .code ≡ pos 0 → Says c r (taken (r .value))
-  unfolding tellOf ofKind eventOf told accepted answeredBy
+  unfolding tellOf ofKind eventOf answeredTo accepted answeredBy
   says-taken k z = says-accepted z (rw (k, z))
 
   -- ---- 15
   pub says-fetched : c .kind ≡ 15 → isFetched (r .code) ≡ true → Says c r (finished (c .a))
-  unfolding tellOf ofKind eventOf told accepted answeredBy linkOn
+  unfolding tellOf ofKind eventOf answeredTo accepted answeredBy linkOn
   says-fetched k z = says-by-kind (rw k) (fetched-past (r .code) z) (rw (k, z))
 
   -- ---- 16
@@ -123,52 +123,52 @@ module _ (c : Call) (r : Ruled) where
 
   -- ---- 17, 18
   pub says-sent : c .kind ≡ 17 → r .code ≡ pos 0 → Says c r (sent (c .a))
-  unfolding tellOf ofKind eventOf told accepted answeredBy linkOn
+  unfolding tellOf ofKind eventOf answeredTo accepted answeredBy linkOn
   says-sent k z = says-accepted z (rw (k, z))
 
   pub says-received : c .kind ≡ 18 → r .code ≡ pos 0 → Says c r nothing
-  unfolding tellOf ofKind eventOf told accepted answeredBy endingEvent
+  unfolding tellOf ofKind eventOf answeredTo accepted answeredBy endingEvent
   says-received k z = says-accepted z (rw (k, z))
 
   pub says-given : c .kind ≡ 18 → r .value ≡ 0 → r .code ≡ pos 29 → r .event ≡ 32 → Says c r (given (c .a))
-  unfolding tellOf ofKind eventOf told answeredBy withEvent linkOn
+  unfolding tellOf ofKind eventOf answeredTo answeredBy withEvent linkOn
   says-given k v z e = says-valueless v (rw z) (rw (k, z, e))
 
   -- the end that the originator learns
   pub says-ended : eqb (c .kind) 17 || eqb (c .kind) 18 ≡ true → r .value ≡ 0 → r .code ≡ pos 29 → isEnding (r .event) ≡ true → Says c r (finished (c .a))
-  unfolding tellOf ofKind eventOf told accepted answeredBy withEvent endingEvent linkOn
+  unfolding tellOf ofKind eventOf answeredTo accepted answeredBy withEvent endingEvent linkOn
   says-ended k v z e = says-valueless v (rw z) (or-cases (eqb (c .kind) 17) _ k
       (λ a. rw (eqb-true (c .kind) 17 a, z, e))
       (λ a. rw (eqb-true (c .kind) 18 a, z, ne-eqb (r .event) 32 (λ q. not-both e (rw q)), e)))
 
-  -- the cut that the server learns
-  pub says-cut : eqb (c .kind) 17 || eqb (c .kind) 18 ≡ true → r .value ≡ 0 → r .code ≡ pos 29 → r .event ≡ 1 → Says c r nothing
-  unfolding tellOf ofKind eventOf told accepted answeredBy withEvent endingEvent
-  says-cut k v z e = says-valueless v (rw z) (or-cases (eqb (c .kind) 17) _ k (λ a. rw (eqb-true (c .kind) 17 a, z, e)) (λ a. rw (eqb-true (c .kind) 18 a, z, e)))
+  -- the server is notified of a disconnect
+  pub says-notified : eqb (c .kind) 17 || eqb (c .kind) 18 ≡ true → r .value ≡ 0 → r .code ≡ pos 29 → r .event ≡ 1 → Says c r nothing
+  unfolding tellOf ofKind eventOf answeredTo accepted answeredBy withEvent endingEvent
+  says-notified k v z e = says-valueless v (rw z) (or-cases (eqb (c .kind) 17) _ k (λ a. rw (eqb-true (c .kind) 17 a, z, e)) (λ a. rw (eqb-true (c .kind) 18 a, z, e)))
 
   -- ---- 19
   pub says-disconnected : c .kind ≡ 19 → r .code ≡ pos 0 → Says c r (disconnected (c .a))
-  unfolding tellOf ofKind eventOf told accepted answeredBy linkOn
+  unfolding tellOf ofKind eventOf answeredTo accepted answeredBy linkOn
   says-disconnected k z = says-accepted z (rw (k, z))
 
   -- ---- 20, 21
   pub says-left : eqb (c .kind) 20 || eqb (c .kind) 21 ≡ true → r .code ≡ pos 0 → Says c r (left (eqb (r .value) 2 || eqb (r .value) 4))
-  unfolding tellOf ofKind eventOf told accepted answeredBy withValue
+  unfolding tellOf ofKind eventOf answeredTo accepted answeredBy withValue
   says-left k z = says-accepted z (or-cases (eqb (c .kind) 20) _ k (λ a. rw (eqb-true (c .kind) 20 a, z)) (λ a. rw (eqb-true (c .kind) 21 a, z)))
 
   -- ---- the caller's timeout
   pub time-refused : (x : ℕ) → sameCode (pos 0) (r .code) ≡ false → timeAfter (eventOf c r) x ≡ x
-  unfolding timeAfter eventOf told accepted answeredBy
+  unfolding timeAfter eventOf answeredTo accepted answeredBy
   time-refused x z = rw z
 
   pub time-kept : (x k : ℕ) → c .kind ≡ k → isTimed k ≡ false → timeAfter (eventOf c r) x ≡ x
-  unfolding timeAfter eventOf told ofKind accepted answeredBy
+  unfolding timeAfter eventOf answeredTo ofKind accepted answeredBy
   time-kept x k e h = rw (e, or-l (eqb k 9) _ h, or-r (eqb k 9) _ h, and-false (sameCode (pos 0) (r .code)))
 
   pub time-set : (x : ℕ) → c .kind ≡ 9 → r .code ≡ pos 0 → timeAfter (eventOf c r) x ≡ c .a
-  unfolding timeAfter eventOf told ofKind accepted answeredBy
+  unfolding timeAfter eventOf answeredTo ofKind accepted answeredBy
   time-set x k z = rw (k, z)
 
   pub time-none : (x : ℕ) → eqb (c .kind) 2 || eqb (c .kind) 21 ≡ true → r .code ≡ pos 0 → timeAfter (eventOf c r) x ≡ 0
-  unfolding timeAfter eventOf told ofKind accepted answeredBy
+  unfolding timeAfter eventOf answeredTo ofKind accepted answeredBy
   time-none x k z = or-cases (eqb (c .kind) 2) _ k (λ a. rw (eqb-true (c .kind) 2 a, z)) (λ a. rw (eqb-true (c .kind) 21 a, z))

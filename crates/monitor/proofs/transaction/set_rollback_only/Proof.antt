@@ -1,11 +1,11 @@
--- `transaction::doom_tx` meets its contract.
-use Rattle.monitor.proofs.Usual.{ℕ, _≤_, ap, sym, _∙_, arith, needs, eq-eqb, ne-eqb, length, set, Party, party, withParties, withParty, rollbackOnly, doomedIn, view, pick-true, pick-false, parties-long}
+-- `transaction::set_rollback_only` meets its contract.
+use Rattle.monitor.proofs.Usual.{ℕ, _≤_, ap, sym, _∙_, arith, needs, eq-eqb, ne-eqb, length, set, Party, party, withParties, withParty, rollbackOnly, rollbackOnlyIn, view, pick-true, pick-false, parties-long}
 use lib.Seq.{set-out}
-use Rattle.monitor.proofs.transaction.doom_tx.Statement.{statement}
-use Rattle.monitor.proofs.transaction.doom_tx.Tie as tie
+use Rattle.monitor.proofs.transaction.set_rollback_only.Statement.{statement}
+use Rattle.monitor.proofs.transaction.set_rollback_only.Tie as tie
 
 returns : tie.Need-returns
-unfolding doomedIn
+unfolding rollbackOnlyIn
 returns c = (ap (withParties (view (c .before .args .s .now))) (sym (pick-true _ _ _ (eq-eqb _ _ (c .if1 .taken)))), c .before .pre)
 
 owner-requires : tie.Need-owner-requires
@@ -18,7 +18,7 @@ put-party-requires : tie.Need-put-party-requires
 put-party-requires c κs = search needs
 
 returns-2 : tie.Need-returns-2
-unfolding doomedIn
+unfolding rollbackOnlyIn
 returns-2 c =
     let m = view (c .before .before .before .before .before .before .before .before .args .s .now) in
     let o = c .before .before .before .before .before .owner in (
@@ -30,7 +30,7 @@ returns-2 c =
     )
 
 returns-3 : tie.Need-returns-3
-unfolding doomedIn
+unfolding rollbackOnlyIn
 returns-3 c =
     let s = c .before .before .before .before in
     let m = view (s .args .s .now) in
@@ -45,7 +45,7 @@ returns-3 c =
       s .pre,
     )
 
-pub doom-tx-spec : {M : Type 1} → statement M
-doom-tx-spec =
+pub set-rollback-only-spec : {M : Type 1} → statement M
+set-rollback-only-spec =
     tie.close
     (tie.spec returns owner-requires party-at-requires put-party-requires returns-2 returns-3)

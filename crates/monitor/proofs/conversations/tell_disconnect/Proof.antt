@@ -1,8 +1,8 @@
--- `conversations::tell_cut` meets its contract.
-use Rattle.monitor.proofs.Usual.{pos, needs, tellsCut, view}
+-- `conversations::tell_disconnect` meets its contract.
+use Rattle.monitor.proofs.Usual.{pos, needs, tellsDisconnect, view}
 use Rattle.monitor.proofs.Talking.{changes}
-use Rattle.monitor.proofs.conversations.tell_cut.Statement.{statement}
-use Rattle.monitor.proofs.conversations.tell_cut.Tie as tie
+use Rattle.monitor.proofs.conversations.tell_disconnect.Statement.{statement}
+use Rattle.monitor.proofs.conversations.tell_disconnect.Tie as tie
 
 notify-requires : tie.Need-notify-requires
 notify-requires c κs = search needs
@@ -11,11 +11,11 @@ put-link-requires : tie.Need-put-link-requires
 put-link-requires c κs = search needs
 
 returns : tie.Need-returns
-unfolding tellsCut
+unfolding tellsDisconnect
 returns c =
     let s = c .before .before .before in
     let n = changes (view (s .args .s .now)) (s .args .a) (c .put-link .ensures .0) (s .pre .2) (s .pre .3) (c .before .before .notify .ensures) in
     (λ i. record { monitor = n i; code = pos 29; value = 0; event = 1; token = 0; service = 0 }, c .put-link .ensures .1)
 
-pub tell-cut-spec : {M : Type 1} → statement M
-tell-cut-spec = tie.close (tie.spec notify-requires put-link-requires returns)
+pub tell-disconnect-spec : {M : Type 1} → statement M
+tell-disconnect-spec = tie.close (tie.spec notify-requires put-link-requires returns)
