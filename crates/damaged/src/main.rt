@@ -1,4 +1,4 @@
-// Lends the monitor records that are broken in each way that soundness names, and sound ones at the borders: a line each.
+// Lends the monitor records that are broken in each way that soundness names, and sound ones at the borders and that no list leads to: a line each.
 mod alike;
 mod links;
 mod parties;
@@ -17,4 +17,5 @@ fn main() {
     links::sound();
     parties::sound();
     show::lists();
+    show::commits();
 }

@@ -95,6 +95,31 @@ pub fn base() -> Monitor {
     m
 }
 
+// Party 2 has requested in transaction 3, which party 0 owns, without serving in it.
+pub fn stray_request() -> Monitor {
+    let mut m = base();
+    let mut q = m.parties[1];
+    q.served = 0;
+    m.parties[1] = q;
+    let mut l = waiting();
+    l.originator = 2;
+    m.links[0] = l;
+    m.count = 1;
+    m
+}
+
+// Party 1 serves a request of transaction 3 whose reply nobody waits for.
+pub fn stray_service() -> Monitor {
+    let mut m = base();
+    let mut l = working();
+    l.kind = 0;
+    l.filled = 0;
+    l.attached = 0;
+    m.links[0] = l;
+    m.count = 1;
+    m
+}
+
 // 32 waiting links, numbered 1 to 32.
 pub fn full() -> Monitor {
     let mut m = base();

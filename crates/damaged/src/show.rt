@@ -1,6 +1,8 @@
 // What the monitor answers on a record, in a line.
 use super::alike::same;
 use super::records::base;
+use super::records::stray_request;
+use super::records::stray_service;
 use super::stored::stored;
 use libc::STDOUT_FILENO;
 use monitor::Store;
@@ -18,6 +20,7 @@ fn write(text: &[u8]) {
 fn show_code(code: i64) {
     match code {
         -5 => write(b"-5"),
+        -2 => write(b"-2"),
         0 => write(b"0"),
         1 => write(b"1"),
         16 => write(b"16"),
@@ -106,4 +109,54 @@ pub fn lists() {
     m.count = 33;
     show_short(b"33 links, five numbers and five places: ", m, &calls[..5]);
     show_short(b"33 links, six numbers and five places: ", m, &calls);
+}
+
+// A party's end, its death or return, on a record; then party 0 commits.
+fn show_commit_after(name: &[u8], record: Monitor, party: u32, kind: u32) {
+    let m = stored(record);
+    let end = Call {
+        clock: 7,
+        party,
+        kind,
+        a: 2,
+        b: 0,
+        c: 0,
+    };
+    let ended = monitor::step(m, end);
+    let r = ended.answer;
+    let n = ended.store;
+    let commit = Call {
+        clock: 7,
+        party: 0,
+        kind: 4,
+        a: 0,
+        b: 0,
+        c: 0,
+    };
+    let s = monitor::step(n, commit);
+    write(name);
+    show_code(r.code);
+    write(b", commit ");
+    let a = s.answer;
+    show_code(a.code);
+    write(b"\n");
+}
+
+// Sound records that no list of calls leads to. On lists these two rules show in no answer: a request that is given up leaves its transaction as
+// it was, and a failed return makes the transaction rollback-only at once.
+pub fn commits() {
+    let request = stray_request();
+    show_commit_after(
+        b"a request of party 0's transaction by a party that is not in it: its originator dies ",
+        request,
+        2,
+        21,
+    );
+    let service = stray_service();
+    show_commit_after(
+        b"a request of party 0's transaction whose reply nobody waits for: its server fails ",
+        service,
+        1,
+        20,
+    );
 }
