@@ -1,8 +1,10 @@
 //! Seeded random calls, chosen with an eye on the monitor so that deep states
 //! come, and what is counted of them.
 
-use crate::monitor::{step, Cut, End, Kind, Link, Monitor, State, LAST_NUMBER, LINKS, PARTIES};
-use std::collections::BTreeMap;
+use crate::kinds::{row, Meaning, Mood, Place, Row, Tried, KINDS, LAST_KIND};
+use crate::monitor::{
+    step, Cut, End, Kind, Link, Monitor, Party, State, LAST_NUMBER, LINKS, LONGEST_TIMEOUT, PARTIES,
+};
 
 /// A small generator of numbers (xorshift64*), from a seed alone.
 #[derive(Clone)]
@@ -37,22 +39,6 @@ impl Rng {
     pub fn pick<T: Copy>(&mut self, from: &[T]) -> T {
         from[self.below(from.len() as u32) as usize]
     }
-}
-
-/// What a stretch of calls leans to.
-#[derive(Clone, Copy, PartialEq, Eq)]
-enum Mood {
-    Even,
-    /// Many new links, few taken.
-    Flood,
-    /// Conversations and their turns.
-    Talk,
-    /// Transactions in quick order.
-    Transactions,
-    /// Services offered and withdrawn.
-    Services,
-    /// One party's transactions, served in good order by the others.
-    Booking,
 }
 
 /// Where the random calls come from.
@@ -275,22 +261,31 @@ impl Generator {
             _ => self.rng.pick(&self.active),
         };
         let kind = match self.rng.below(12) {
-            0 => self
-                .rng
-                .pick(&[0, 22, 23, 24, 32, 256 + 3, 1 << 31, u32::MAX]),
-            _ => 1 + self.rng.below(21),
+            0 => self.rng.pick(&[
+                0,
+                LAST_KIND + 1,
+                LAST_KIND + 2,
+                LAST_KIND + 3,
+                32,
+                256 + 3,
+                1 << 31,
+                u32::MAX,
+            ]),
+            _ => 1 + self.rng.below(LAST_KIND),
         };
-        // A fall is heavy; not every stray one stands.
-        let kind = if kind == 21 && !self.rng.once_in(4) {
+        // What is heavy does not stand every time.
+        let heavy = row(kind).is_some_and(|row| row.tried == Tried::SomeCaller);
+        let kind = if heavy && !self.rng.once_in(4) {
             6
         } else {
             kind
         };
-        let a = match (kind, self.rng.below(6)) {
+        let meaning = row(kind).map_or(Meaning::Nothing, |row| row.arguments[0]);
+        let a = match (meaning, self.rng.below(6)) {
             (_, 0) => self.rng.next_u32(),
-            (10..=13, _) => self.service(),
-            (15..=19, _) => self.link(m),
-            (9, _) => self.rng.pick(&[0, 1, 2_147_483_647, 2_147_483_648]),
+            (meaning, _) if meaning.is_service() => self.service(),
+            (Meaning::Link, _) => self.link(m),
+            (Meaning::Timeout, _) => self.rng.pick(&[0, 1, LONGEST_TIMEOUT, LONGEST_TIMEOUT + 1]),
             _ => self.rng.below(4),
         };
         let b = if self.rng.once_in(8) {
@@ -305,25 +300,7 @@ impl Generator {
     /// A call that suits the caller's place in the monitor, and whether any
     /// fits it well.
     fn plausible(&mut self, m: &Monitor, caller: u32) -> (bool, [u32; 4]) {
-        let p = caller as usize;
-        let party = &m.parties[p];
-        let t = m.transaction(p);
-        let owner = party.owned != 0;
-        let mine: Vec<Link> = m
-            .links()
-            .iter()
-            .filter(|l| l.open && u32::from(l.originator) == caller)
-            .copied()
-            .collect();
-        let serving = m.links().iter().find(|l| l.number == party.served).copied();
-        let mood = self.mood;
-        let flood = mood == Mood::Flood;
-        let quick = mood == Mood::Transactions;
-        // Ends left over are given up when links are many, or to be free to serve.
-        let server = self.servers >> caller & 1 == 1;
-        let crowded =
-            m.link_count > 24 && !flood || mood == Mood::Booking && server && party.served == 0;
-
+        let view = self.view(m, caller);
         let mut choices = std::mem::take(&mut self.choices);
         choices.clear();
         let sense = self.sense;
@@ -333,192 +310,29 @@ impl Generator {
             choices.push((if weight > 2 { weight * sense } else { weight }, call));
         };
 
-        // TX.
-        add(if party.opened { 1 } else { 60 }, [1, 0, 0, 0]);
-        add(if t == 0 { 2 } else { 1 }, [2, 0, 0, 0]);
-        let begin = match (party.opened && t == 0, quick) {
-            (true, _) if server => 2,
-            (true, true) => 40,
-            (true, false) => 30,
-            _ => 1,
-        };
-        add(begin, [3, 0, 0, 0]);
-        let commit = match (owner, mine.is_empty(), quick) {
-            (true, false, _) if party.deadline != 0 && u64::from(m.clock) >= party.deadline => 4,
-            (true, true, true) => 20,
-            (true, true, _) if self.heard[p] => 40,
-            (true, true, _) => 4,
-            _ => 1,
-        };
-        add(commit, [4, 0, 0, 0]);
-        add(
-            if owner && crowded && !mine.is_empty() {
-                4
-            } else {
-                1
-            },
-            [5, 0, 0, 0],
-        );
-        add(1, [6, 0, 0, 0]);
-        let other = self.rng.next_u32();
-        add(1, [7, self.rng.pick(&[0, 0, 1, 1, 2, other]), 0, 0]);
-        add(2, [8, self.rng.pick(&[0, 0, 1, 1, 1, 2, other]), 0, 0]);
-        let near = 1 + self.rng.below(12);
-        add(
-            2,
-            [
-                9,
-                self.rng.pick(&[
-                    0,
-                    0,
-                    0,
-                    near,
-                    near,
-                    near,
-                    60,
-                    2_147_483_647,
-                    2_147_483_648,
-                    other,
-                ]),
-                0,
-                0,
-            ],
-        );
-
-        // Services.
-        let offered = party.services.count_ones();
-        let service = match mood {
-            Mood::Services => 1 + self.rng.below(14),
-            _ => self.service(),
-        };
-        let weight = match (mood, offered) {
-            (Mood::Services, _) => 30,
-            (_, 0) if server => 20,
-            (_, 1) if server => 4,
-            _ => 1,
-        };
-        add(weight, [10, service, 0, 0]);
-        let service = match mood {
-            Mood::Services => 1 + self.rng.below(14),
-            _ => self.offered_service(m),
-        };
-        add(
-            if mood == Mood::Services { 8 } else { 1 },
-            [11, service, 0, 0],
-        );
-
-        // New links.
-        let nested = party.served != 0;
-        let weight: u32 = match (m.link_count, flood) {
-            (LINKS, _) => 1,
-            (_, true) => 60,
-            _ if mine.len() >= self.enough || crowded => 1,
-            _ if nested => 6,
-            _ if server => 1,
-            _ if mood == Mood::Booking && (t == 0 || self.heard[p]) => 1,
-            _ if self.heard[p] => 4,
-            _ => 14,
-        };
-        let flags = match self.rng.below(30) {
-            _ if mood == Mood::Booking => 0,
-            0 => self.rng.below(10),
-            1..=2 => 1,
-            3..=4 => 3,
-            5..=8 => 2,
-            _ => 0,
-        };
-        let service = self.offered_service(m);
-        let token = self.token();
-        add(
-            if mood == Mood::Talk {
-                weight.div_ceil(4)
-            } else {
-                weight
-            },
-            [12, service, flags, token],
-        );
-        let flags = match self.rng.below(30) {
-            n if mood == Mood::Booking => 4 + n % 2 * 4,
-            0 => self.rng.below(18),
-            1..=3 => 6,
-            4..=6 => 10,
-            7..=17 => 4,
-            _ => 8,
-        };
-        let service = self.offered_service(m);
-        let token = self.token();
-        add(
-            weight.div_ceil(if mood == Mood::Talk { 1 } else { 2 }),
-            [13, service, flags, token],
-        );
-
-        // Service.
-        let may_take = party.opened && party.served == 0 && t == 0 && mine.is_empty();
-        let work = m.links().iter().any(|l| {
-            l.state == State::Waiting
-                && (1..=64).contains(&l.service)
-                && party.services >> (l.service - 1) & 1 == 1
-        });
-        let weight = match (may_take, work) {
-            (true, true) if flood => 8,
-            (true, true) => 80,
-            (true, false) => 2,
-            _ => 1,
-        };
-        add(weight, [14, 0, 0, 0]);
-        let result = self.rng.pick(&[1, 1, 1, 1, 1, 2]);
-        let result = if mood == Mood::Booking && !self.rng.once_in(4) {
-            1
-        } else {
-            result
-        };
-        let result = if self.rng.once_in(25) {
-            self.rng.pick(&[0, 3, other])
-        } else {
-            result
-        };
-        let token = self.token();
-        if party.served != 0 {
-            let talking = serving.is_some_and(|l| {
-                l.kind == Kind::Conversation && (l.holder != End::Server || l.handing_over)
-            });
-            add(
-                if mine.is_empty() && !talking { 14 } else { 1 },
-                [20, result, 0, token],
-            );
-        } else {
-            add(1, [20, result, 0, token]);
+        for row in KINDS.iter().filter(|row| row.tried == Tried::Caller) {
+            let call = self.call(&view, row, 0);
+            add(row.weight(self.mood, self.place(&view, row)), call);
         }
-
-        // The ends the caller has.
-        for l in &mine {
-            match l.kind {
-                Kind::Request => {
-                    add(
-                        if l.state == State::Returned { 40 } else { 2 },
-                        [15, l.number, 0, 0],
-                    );
-                    add(
-                        if crowded && l.transaction == 0 { 4 } else { 1 },
-                        [16, l.number, 0, 0],
-                    );
-                }
-                Kind::Conversation => {
-                    self.talk(l, End::Originator, &mut add);
-                    add(if crowded { 4 } else { 1 }, [19, l.number, 0, 0]);
-                }
+        let own = view.mine.iter().map(|l| (l, End::Originator));
+        let served = view.serving.iter().map(|l| (l, End::Server));
+        for (l, end) in own.chain(served) {
+            for row in KINDS.iter().filter(|row| is_for_end(row, l, end)) {
+                let call = self.call(&view, row, l.number);
+                add(row.weight(self.mood, place_at(&view, row, l, end)), call);
             }
-        }
-        if let Some(l) = serving.filter(|l| l.kind == Kind::Conversation) {
-            self.talk(&l, End::Server, &mut add);
         }
         // Somebody else's link, or none.
         let number = self.link(m);
-        let kind = 15 + self.rng.below(5);
-        add(2, [kind, number, 0, 5]);
+        let on_links = KINDS.iter().filter(|row| row.arguments[0] == Meaning::Link);
+        let on_links: Vec<u32> = on_links.map(|row| row.number).collect();
+        add(2, [self.rng.pick(&on_links), number, 0, 5]);
 
-        if self.rng.once_in(5) {
-            add(if party.served != 0 { 2 } else { 1 }, [21, 0, 0, 0]);
+        for row in KINDS.iter().filter(|row| row.tried == Tried::SomeCaller) {
+            if self.rng.once_in(5) {
+                let call = self.call(&view, row, 0);
+                add(row.weight(self.mood, self.place(&view, row)), call);
+            }
         }
 
         let total = choices.iter().map(|choice| choice.0).sum();
@@ -535,29 +349,218 @@ impl Generator {
         (fits, call)
     }
 
-    /// Sends and receives on an end of a conversation.
-    fn talk(&mut self, l: &Link, end: End, add: &mut impl FnMut(u32, [u32; 4])) {
-        let sender = l.holder == end && !l.handing_over;
-        let talk = if self.mood == Mood::Talk { 3 } else { 1 };
-        let hand_over = match self.rng.below(60) {
-            0 => 2 + self.rng.below(5),
-            1..=30 => 1,
-            _ => 0,
-        };
-        let token = self.token();
-        let news = l.cut == Cut::Cut || l.state == State::Returned;
-        let weight = match (sender, l.unread_count) {
-            _ if news => 5,
-            (true, 0) => 10 * talk,
-            (true, 1..=3) => 3 * talk,
-            _ => 2,
-        };
-        add(weight, [17, l.number, hand_over, token]);
-        let hear = l.holder != end && l.unread_count > 0;
-        add(
-            if hear || news { 14 * talk } else { 2 },
-            [18, l.number, 0, 0],
-        );
+    /// What a caller sees.
+    fn view<'a>(&mut self, m: &'a Monitor, caller: u32) -> View<'a> {
+        let p = caller as usize;
+        let party = &m.parties[p];
+        let server = self.servers >> caller & 1 == 1;
+        View {
+            m,
+            party,
+            t: m.transaction(p),
+            mine: m
+                .links()
+                .iter()
+                .filter(|l| l.open && u32::from(l.originator) == caller)
+                .copied()
+                .collect(),
+            serving: m.links().iter().find(|l| l.number == party.served).copied(),
+            server,
+            heard: self.heard[p],
+            crowded: m.link_count > 24 && self.mood != Mood::Flood
+                || self.mood == Mood::Booking && server && party.served == 0,
+            other: self.rng.next_u32(),
+        }
+    }
+
+    /// A call of a kind, on a link if the kind is on one.
+    fn call(&mut self, view: &View, row: &Row, link: u32) -> [u32; 4] {
+        let [a, b, c] = row.arguments;
+        // The flags come before the service.
+        let b = self.argument(view, b, link);
+        let a = self.argument(view, a, link);
+        let c = self.argument(view, c, link);
+        [row.number, a, b, c]
+    }
+
+    fn argument(&mut self, view: &View, meaning: Meaning, link: u32) -> u32 {
+        let booking = self.mood == Mood::Booking;
+        match meaning {
+            Meaning::Nothing => 0,
+            Meaning::OneOf(numbers) => {
+                let at = self.rng.below(numbers.len() as u32 + 1) as usize;
+                numbers.get(at).copied().unwrap_or(view.other)
+            }
+            Meaning::Timeout => {
+                let near = 1 + self.rng.below(12);
+                self.rng.pick(&[
+                    0,
+                    0,
+                    0,
+                    near,
+                    near,
+                    near,
+                    60,
+                    LONGEST_TIMEOUT,
+                    LONGEST_TIMEOUT + 1,
+                    view.other,
+                ])
+            }
+            Meaning::ToOffer | Meaning::ToWithdraw if self.mood == Mood::Services => {
+                1 + self.rng.below(14)
+            }
+            Meaning::ToOffer => self.service(),
+            Meaning::ToWithdraw | Meaning::Wanted => self.offered_service(view.m),
+            Meaning::RequestFlags => match self.rng.below(30) {
+                _ if booking => 0,
+                0 => self.rng.below(10),
+                1..=2 => 1,
+                3..=4 => 3,
+                5..=8 => 2,
+                _ => 0,
+            },
+            Meaning::ConnectFlags => match self.rng.below(30) {
+                n if booking => 4 + n % 2 * 4,
+                0 => self.rng.below(18),
+                1..=3 => 6,
+                4..=6 => 10,
+                7..=17 => 4,
+                _ => 8,
+            },
+            Meaning::Link => link,
+            Meaning::HandOver => match self.rng.below(60) {
+                0 => 2 + self.rng.below(5),
+                1..=30 => 1,
+                _ => 0,
+            },
+            Meaning::Result => {
+                let mostly = self.rng.pick(&[1, 1, 1, 1, 1, 2]);
+                let good = booking && !self.rng.once_in(4);
+                if self.rng.once_in(25) {
+                    self.rng.pick(&[0, 3, view.other])
+                } else if good {
+                    1
+                } else {
+                    mostly
+                }
+            }
+            Meaning::Token => self.token(),
+        }
+    }
+
+    /// The caller's place for a kind that is on no link.
+    fn place(&self, view: &View, row: &Row) -> Place {
+        let View { m, party, t, .. } = *view;
+        let no_ends = view.mine.is_empty();
+        match row.number {
+            1 if !party.opened => Place::Fit,
+            2 if t == 0 => Place::Idle,
+            3 if party.opened && t == 0 => {
+                if view.server {
+                    Place::Idle
+                } else {
+                    Place::Fit
+                }
+            }
+            4 if party.owned != 0 => {
+                let passed = party.deadline != 0 && u64::from(m.clock) >= party.deadline;
+                match (no_ends, view.heard) {
+                    (false, _) if passed => Place::Late,
+                    (false, _) => Place::Unfit,
+                    (true, true) => Place::Heard,
+                    (true, false) => Place::Fit,
+                }
+            }
+            5 if party.owned != 0 && view.crowded && !no_ends => Place::Crowded,
+            10 | 11 if self.mood == Mood::Services => Place::Fit,
+            10 if view.server => match party.services.count_ones() {
+                0 => Place::Fit,
+                1 => Place::More,
+                _ => Place::Unfit,
+            },
+            12 | 13 => match self.mood {
+                _ if m.link_count == LINKS => Place::Unfit,
+                Mood::Flood => Place::Fit,
+                _ if view.mine.len() >= self.enough || view.crowded => Place::Unfit,
+                _ if party.served != 0 => Place::Serving,
+                _ if view.server => Place::Unfit,
+                Mood::Booking if t == 0 || view.heard => Place::Unfit,
+                _ if view.heard => Place::Heard,
+                _ => Place::Fit,
+            },
+            14 if party.opened && party.served == 0 && t == 0 && no_ends => {
+                let work = m.links().iter().any(|l| {
+                    l.state == State::Waiting
+                        && (1..=64).contains(&l.service)
+                        && party.services >> (l.service - 1) & 1 == 1
+                });
+                if work {
+                    Place::Fit
+                } else {
+                    Place::Idle
+                }
+            }
+            20 if party.served != 0 && no_ends => {
+                let talking = view.serving.is_some_and(|l| {
+                    l.kind == Kind::Conversation && (l.holder != End::Server || l.handing_over)
+                });
+                if talking {
+                    Place::Unfit
+                } else {
+                    Place::Fit
+                }
+            }
+            21 if party.served != 0 => Place::Serving,
+            _ => Place::Unfit,
+        }
+    }
+}
+
+/// What a caller sees of the monitor, and how it leans.
+struct View<'a> {
+    m: &'a Monitor,
+    party: &'a Party,
+    /// Its transaction.
+    t: u32,
+    /// The links of which it has the originator's open end.
+    mine: Vec<Link>,
+    /// The link it serves.
+    serving: Option<Link>,
+    /// Whether it leaves new links to others, until it serves.
+    server: bool,
+    /// Whether it heard a service's end in its transaction.
+    heard: bool,
+    /// Ends left over are given up when links are many, or to be free to serve.
+    crowded: bool,
+    /// Any number.
+    other: u32,
+}
+
+/// Whether a kind is tried for an end.
+fn is_for_end(row: &Row, l: &Link, end: End) -> bool {
+    match row.tried {
+        Tried::Caller | Tried::SomeCaller => false,
+        Tried::Request => l.kind == Kind::Request && end == End::Originator,
+        Tried::Conversation => l.kind == Kind::Conversation,
+        Tried::OwnConversation => l.kind == Kind::Conversation && end == End::Originator,
+    }
+}
+
+/// The caller's place for a kind on a link of which it has that end.
+fn place_at(view: &View, row: &Row, l: &Link, end: End) -> Place {
+    let news = l.cut == Cut::Cut || l.state == State::Returned;
+    match row.number {
+        15 if l.state == State::Returned => Place::Fit,
+        16 if view.crowded && l.transaction == 0 => Place::Crowded,
+        17 | 18 if news => Place::News,
+        17 if l.holder == end && !l.handing_over => match l.unread_count {
+            0 => Place::Fit,
+            1..=3 => Place::More,
+            _ => Place::Unfit,
+        },
+        18 if l.holder != end && l.unread_count > 0 => Place::Fit,
+        19 if view.crowded => Place::Crowded,
+        _ => Place::Unfit,
     }
 }
 
@@ -701,63 +704,10 @@ pub fn spent(seed: u64, give: Give) {
     }
 }
 
-/// Kind (0 for one outside 1 to 21), code and event.
-pub type Triple = (u32, i64, i64);
-
-/// How often each triple came.
-pub type Counts = BTreeMap<Triple, u64>;
-
-/// Counts one call.
-pub fn count(counts: &mut Counts, call: [u32; 6], answer: [i64; 6]) {
-    let kind = if (1..=21).contains(&call[2]) {
-        call[2]
-    } else {
-        0
-    };
-    *counts.entry((kind, answer[0], answer[2])).or_insert(0) += 1;
-}
-
-/// The triples that can come in a list from a fresh monitor, as reasoned from
-/// the document.
-pub fn possible() -> Vec<Triple> {
-    let codes: [(u32, &[i64]); 19] = [
-        (1, &[0]),
-        (2, &[0, -5]),
-        (3, &[0, -5, -6]),
-        (4, &[0, -2, -5, -100, -102]),
-        (5, &[0, -5, -100]),
-        (6, &[0, 1, -5]),
-        (7, &[0, 1, -5, -8]),
-        (8, &[0, -5, -8]),
-        (9, &[0, -5, -8]),
-        (10, &[0, 22, 26]),
-        (11, &[0, 22, 25]),
-        (12, &[0, 22, 23, 25, 26, 28]),
-        (13, &[0, 22, 23, 25, 26, 28]),
-        (14, &[23, 32]),
-        (15, &[0, 24, 28, 30, 31, 32]),
-        (16, &[0, 24, 27]),
-        (19, &[0, 24]),
-        (20, &[0, 22, 23]),
-        (21, &[0]),
-    ];
-    let mut all = vec![(0, 20, 0)];
-    all.extend((1..=21).map(|kind| (kind, 21, 0)));
-    for (kind, codes) in codes {
-        all.extend(codes.iter().map(|&code| (kind, code, 0)));
-    }
-    all.extend([64, 65, 66].map(|event| (14, 0, event)));
-    all.extend([0, 22, 23, 24, 28, 32].map(|code| (17, code, 0)));
-    all.extend([1, 2, 4].map(|event| (17, 29, event)));
-    all.extend([0, 23, 24, 28, 32].map(|code| (18, code, 0)));
-    all.extend([1, 2, 4, 8, 32].map(|event| (18, 29, event)));
-    all.sort_unstable();
-    all
-}
-
 #[cfg(test)]
 mod tests {
     use super::*;
+    use crate::kinds::{count, possible, Counts, Triple};
 
     #[test]
     fn same_seed_same_calls() {

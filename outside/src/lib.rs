@@ -4,6 +4,7 @@ pub mod drill;
 pub mod faults;
 pub mod generator;
 pub mod history;
+pub mod kinds;
 #[cfg(feature = "timing")]
 pub mod lent;
 pub mod monitor;

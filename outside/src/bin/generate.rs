@@ -5,7 +5,8 @@
 //! generate coverage SEED TARGET   a table of what came in about TARGET calls
 
 use outside::drill;
-use outside::generator::{self, Counts};
+use outside::generator;
+use outside::kinds::{self, Counts, LAST_KIND};
 use std::io::{self, BufWriter, Write};
 use std::process::ExitCode;
 
@@ -44,12 +45,17 @@ impl File {
     }
 }
 
+/// A kind's word before a remark.
+fn word(kind: u32) -> String {
+    kinds::row(kind).map_or_else(String::new, |row| format!("{}: ", row.word))
+}
+
 fn coverage(seed: u64, target: u64) -> io::Result<()> {
     let mut counts = Counts::new();
     let mut calls = 0u64;
     let mut give = |call, answer| {
         calls += 1;
-        generator::count(&mut counts, call, answer);
+        kinds::count(&mut counts, call, answer);
     };
     // Many short histories: one long one would spend its numbers.
     for n in 0..target.div_ceil(HISTORY) {
@@ -60,18 +66,18 @@ fn coverage(seed: u64, target: u64) -> io::Result<()> {
     }
     generator::spent(seed, &mut |_, call, answer| give(call, answer));
 
-    let possible = generator::possible();
+    let possible = kinds::possible();
     let mut out = BufWriter::new(io::stdout().lock());
     writeln!(
         out,
-        "kind  code event      count   (kind 0: outside 1 to 21)"
+        "kind  code event      count   (kind 0: outside 1 to {LAST_KIND})"
     )?;
     for (triple, count) in &counts {
         let (kind, code, event) = triple;
         let mark = if possible.contains(triple) {
-            ""
+            String::new()
         } else {
-            "   not held possible"
+            format!("   {}not held possible", word(*kind))
         };
         writeln!(out, "{kind:4} {code:5} {event:5} {count:10}{mark}")?;
     }
@@ -81,7 +87,8 @@ fn coverage(seed: u64, target: u64) -> io::Result<()> {
     {
         writeln!(
             out,
-            "{kind:4} {code:5} {event:5}          0   possible, never seen"
+            "{kind:4} {code:5} {event:5}          0   {}possible, never seen",
+            word(*kind)
         )?;
     }
     let seen = possible

@@ -5,6 +5,7 @@
 
 use outside::drill;
 use outside::generator::{self, Rng};
+use outside::kinds::KINDS;
 use outside::lent;
 use outside::monitor::{self as plain, Monitor, LINKS};
 use outside::words;
@@ -34,9 +35,8 @@ fn mixed(calls: usize) -> Calls {
 /// Random kinds and arguments that make no link.
 fn empty(calls: usize) -> Calls {
     let mut rng = Rng::new(2);
-    let kinds = [
-        1, 2, 3, 4, 5, 6, 7, 8, 9, 10, 11, 14, 15, 16, 17, 18, 19, 20, 21,
-    ];
+    let kinds = KINDS.iter().map(|row| row.number);
+    let kinds: Vec<u32> = kinds.filter(|kind| !matches!(kind, 12 | 13)).collect();
     (0..calls)
         .map(|n| {
             let kind = rng.pick(&kinds);
