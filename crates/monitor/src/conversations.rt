@@ -7,6 +7,7 @@ ghost use Rattle.rules.specs.Conversations.{originatorEnd, serverEnd, anyEnd, h
 ghost use Rattle.monitor.specs.Words.{words};
 ghost use Rattle.monitor.specs.View.{view, ruledBy};
 use super::Told;
+use super::codes;
 use super::links::accept;
 use super::links::coded;
 use super::links::disconnect_link;
@@ -92,9 +93,9 @@ pub(crate) fn tell_disconnect(s: &mut [u32; WORDS], i: usize, a: u32, l: Link) -
     let k = notify(l);
     put_link(&mut *s, i, k);
     Told {
-        code: 29,
+        code: codes::TPEEVENT,
         value: 0,
-        event: 1,
+        event: codes::TPEV_DISCONIMM,
         token: 0,
         service: 0,
     }
@@ -107,7 +108,7 @@ pub(crate) fn tell_return(s: &mut [u32; WORDS], i: usize, a: u32, l: Link) -> To
 {
     remove_at(&mut *s, i, a);
     Told {
-        code: 29,
+        code: codes::TPEEVENT,
         value: 0,
         event: l.outcome,
         token: l.ending,
@@ -143,31 +144,31 @@ pub(crate) fn send_on(
 {
     let known = is_any_end(p, l);
     if !known {
-        return coded(24);
+        return coded(codes::NO_SUCH_END);
     }
     if b > 1 {
-        return coded(22);
+        return coded(codes::BAD_ARGUMENT);
     }
     let late = is_expired(&*s, l.tx);
     if late {
-        return coded(28);
+        return coded(codes::TIMED_OUT);
     }
     let disconnected = hears_disconnect(p, l);
     if disconnected {
         return tell_disconnect(&mut *s, i, a, l);
     }
     let over = hears_return(p, l);
-    let failed = over & !(l.outcome == 8);
+    let failed = over & !(l.outcome == codes::TPEV_SVCSUCC);
     if failed {
         return tell_return(&mut *s, i, a, l);
     }
     let sender = is_sender(p, l);
     let free = sender & (l.granting == 0);
     if !free {
-        return coded(23);
+        return coded(codes::NOT_ALLOWED_NOW);
     }
     if l.filled >= Link::UNREAD {
-        return coded(32);
+        return coded(codes::UNREAD_FULL);
     }
     let k = with_sent(l, b, c);
     put_link(&mut *s, i, k);
@@ -182,7 +183,7 @@ pub(crate) fn tpsend(s: &mut [u32; WORDS], p: usize, a: u32, b: u32, c: u32) -> 
     let i = place_of(&*s, a);
     let len = count(&*s);
     if len <= i {
-        return coded(24);
+        return coded(codes::NO_SUCH_END);
     }
     let l = link_at(&*s, i);
     send_on(&mut *s, p, i, a, b, c, l)
@@ -222,9 +223,9 @@ pub(crate) fn receive(s: &mut [u32; WORDS], p: usize, i: usize, a: u32, l: Link)
         let k = without_oldest(l, side, 0);
         put_link(&mut *s, i, k);
         return Told {
-            code: 29,
+            code: codes::TPEEVENT,
             value: 0,
-            event: 32,
+            event: codes::TPEV_SENDONLY,
             token,
             service: 0,
         };
@@ -232,7 +233,7 @@ pub(crate) fn receive(s: &mut [u32; WORDS], p: usize, i: usize, a: u32, l: Link)
     let k = without_oldest(l, l.sender, l.granting);
     put_link(&mut *s, i, k);
     Told {
-        code: 0,
+        code: codes::TP_ACCEPTED,
         value: 0,
         event: 0,
         token,
@@ -247,11 +248,11 @@ pub(crate) fn receive_on(s: &mut [u32; WORDS], p: usize, i: usize, a: u32, l: Li
 {
     let known = is_any_end(p, l);
     if !known {
-        return coded(24);
+        return coded(codes::NO_SUCH_END);
     }
     let late = is_expired(&*s, l.tx);
     if late {
-        return coded(28);
+        return coded(codes::TIMED_OUT);
     }
     let disconnected = hears_disconnect(p, l);
     if disconnected {
@@ -263,10 +264,10 @@ pub(crate) fn receive_on(s: &mut [u32; WORDS], p: usize, i: usize, a: u32, l: Li
     }
     let sender = is_sender(p, l);
     if sender {
-        return coded(23);
+        return coded(codes::NOT_ALLOWED_NOW);
     }
     if l.filled == 0 {
-        return coded(32);
+        return coded(codes::NOTHING_UNREAD);
     }
     receive(&mut *s, p, i, a, l)
 }
@@ -279,7 +280,7 @@ pub(crate) fn tprecv(s: &mut [u32; WORDS], p: usize, a: u32) -> Told
     let i = place_of(&*s, a);
     let len = count(&*s);
     if len <= i {
-        return coded(24);
+        return coded(codes::NO_SUCH_END);
     }
     let l = link_at(&*s, i);
     receive_on(&mut *s, p, i, a, l)
@@ -306,12 +307,12 @@ pub(crate) fn tpdiscon(s: &mut [u32; WORDS], p: usize, a: u32) -> Told
     let i = place_of(&*s, a);
     let len = count(&*s);
     if len <= i {
-        return coded(24);
+        return coded(codes::NO_SUCH_END);
     }
     let l = link_at(&*s, i);
     let own = is_originator_end(p, l);
     if !own {
-        return coded(24);
+        return coded(codes::NO_SUCH_END);
     }
     set_rollback_only(&mut *s, l.tx);
     disconnect_at(&mut *s, i, a, l);

@@ -9,6 +9,7 @@ ghost use Rattle.rules.specs.Sound.{sound};
 ghost use Rattle.monitor.specs.Words.{words};
 ghost use Rattle.monitor.specs.View.{view};
 ghost use Rattle.monitor.specs.File.{readCall, found, passed, pieceRun, pieceOf, fileOf, fileCalls, fileBytes, written, writeAnswer, writeBuffer};
+use super::codes;
 use super::run::put;
 use super::sound::is_sound_in;
 use super::steps::call_on;
@@ -99,7 +100,7 @@ fn run_calls(s: &mut [u32; WORDS], input: &[u8], last: bool, answers: &mut [i64]
             Found::Whole(call, next) => {
                 if most <= n {
                     return Passed {
-                        code: 0,
+                        code: codes::FILE_RUN,
                         calls: n,
                         used: at,
                     };
@@ -111,7 +112,7 @@ fn run_calls(s: &mut [u32; WORDS], input: &[u8], last: bool, answers: &mut [i64]
             }
             Found::End => {
                 return Passed {
-                    code: 0,
+                    code: codes::FILE_RUN,
                     calls: n,
                     used: at,
                 };
@@ -119,20 +120,20 @@ fn run_calls(s: &mut [u32; WORDS], input: &[u8], last: bool, answers: &mut [i64]
             Found::CutShort => {
                 if last {
                     return Passed {
-                        code: 17,
+                        code: codes::CUT_SHORT,
                         calls: n,
                         used: at,
                     };
                 }
                 return Passed {
-                    code: 0,
+                    code: codes::FILE_RUN,
                     calls: n,
                     used: at,
                 };
             }
             Found::Malformed => {
                 return Passed {
-                    code: 18,
+                    code: codes::MALFORMED,
                     calls: n,
                     used: at,
                 };
@@ -154,7 +155,7 @@ pub(crate) fn piece_on(
     let ok = is_sound_in(&*s);
     if !ok {
         return Passed {
-            code: 19,
+            code: codes::UNSOUND,
             calls: 0,
             used: 0,
         };
@@ -209,7 +210,7 @@ pub(crate) fn file_on(s: &mut [u32; WORDS], input: &[u8], answers: &mut [i64]) -
     let whole = count_calls(input);
     if answers.len() / 6 < whole {
         return Passed {
-            code: 16,
+            code: codes::TOO_LITTLE_ROOM,
             calls: 0,
             used: 0,
         };

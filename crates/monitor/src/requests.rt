@@ -8,6 +8,7 @@ ghost use Rattle.rules.specs.Requests.{noReply, noTran, recvOnly, connectFlags,
 ghost use Rattle.monitor.specs.Words.{words};
 ghost use Rattle.monitor.specs.View.{view, ruledBy};
 use super::Told;
+use super::codes;
 use super::links::accept;
 use super::links::close_end;
 use super::links::coded;
@@ -43,13 +44,13 @@ pub(crate) fn no_reply(b: u32) -> bool
 pub(crate) fn no_tran(b: u32) -> bool
     ensures { λ r. ⌜ r ≡ noTran b ⌝ }
 {
-    b / 2 % 2 == 1
+    b / codes::TPNOTRAN % 2 == 1
 }
 
 pub(crate) fn connect_flags(b: u32) -> bool
     ensures { λ r. ⌜ r ≡ connectFlags b ⌝ }
 {
-    (b <= 15) & ((b % 2 == 0) & !(b / 4 % 2 == b / 8 % 2))
+    (b <= 15) & ((b % 2 == 0) & !(b / codes::TPSENDONLY % 2 == b / codes::TPRECVONLY % 2))
 }
 
 // A new link with the flags b: its originator's end, its sender and its transaction.
@@ -65,7 +66,7 @@ pub(crate) fn open_end(b: u32) -> u32
 pub(crate) fn first_sender(b: u32) -> u32
     ensures { λ r. ⌜ r ≡ pick (recvOnly b) 1 0 ⌝ }
 {
-    if b / 8 % 2 == 1 {
+    if b / codes::TPRECVONLY % 2 == 1 {
         return 1;
     }
     0
@@ -131,21 +132,21 @@ pub(crate) fn ask_link(s: &[u32; WORDS], t: u32, a: u32) -> i64
 {
     let ended = is_ended(s, t);
     if ended {
-        return 23;
+        return codes::NOT_ALLOWED_NOW;
     }
     let late = is_expired(s, t);
     if late {
-        return 28;
+        return codes::TIMED_OUT;
     }
     let some = is_offered(s, a);
     if !some {
-        return 25;
+        return codes::NOT_OFFERED;
     }
     let left = is_link_left(s);
     if !left {
-        return 26;
+        return codes::NO_ROOM_LEFT;
     }
-    0
+    codes::TP_ACCEPTED
 }
 
 // The new link gets the next number, which is the value, and its place.
@@ -176,13 +177,13 @@ pub(crate) fn tpacall(s: &mut [u32; WORDS], p: usize, a: u32, b: u32, c: u32) ->
 {
     let own = tx_of(&*s, p);
     let service = is_service(a);
-    let good = service & ((b <= 3) & !((b == 1) & !(own == 0)));
+    let good = service & ((b <= 3) & !((b == codes::TPNOREPLY) & !(own == 0)));
     if !good {
-        return coded(22);
+        return coded(codes::BAD_ARGUMENT);
     }
     let t = link_tx(&*s, p, b);
     let code = ask_link(&*s, t, a);
-    if code != 0 {
+    if code != codes::TP_ACCEPTED {
         return coded(code);
     }
     let attached = open_end(b);
@@ -203,11 +204,11 @@ pub(crate) fn tpconnect(s: &mut [u32; WORDS], p: usize, a: u32, b: u32, c: u32) 
     let flags = connect_flags(b);
     let good = service & flags;
     if !good {
-        return coded(22);
+        return coded(codes::BAD_ARGUMENT);
     }
     let t = link_tx(&*s, p, b);
     let code = ask_link(&*s, t, a);
-    if code != 0 {
+    if code != codes::TP_ACCEPTED {
         return coded(code);
     }
     let sender = first_sender(b);
@@ -265,12 +266,12 @@ pub(crate) fn dispatch_event(l: Link) -> u32
     ensures { λ r. ⌜ r ≡ dispatchEvent l ⌝ }
 {
     if l.kind == 0 {
-        return 64;
+        return codes::REQUEST_DISPATCHED;
     }
     if l.sender == 0 {
-        return 65;
+        return codes::RECEIVER_DISPATCHED;
     }
-    66
+    codes::SENDER_DISPATCHED
 }
 
 // The link l at the place i becomes working for party p.
@@ -287,7 +288,7 @@ pub(crate) fn dispatch(s: &mut [u32; WORDS], p: usize, i: usize, l: Link) -> Tol
     put_party(&mut *s, p, q);
     put_link(&mut *s, i, k);
     Told {
-        code: 0,
+        code: codes::TP_ACCEPTED,
         value: l.number,
         event,
         token: l.first,
@@ -302,7 +303,7 @@ pub(crate) fn take(s: &mut [u32; WORDS], p: usize) -> Told
 {
     let idle = is_idle(&*s, p);
     if !idle {
-        return coded(23);
+        return coded(codes::NOT_ALLOWED_NOW);
     }
     let i = next_waiting(&*s, p);
     let len = count(&*s);
@@ -310,7 +311,7 @@ pub(crate) fn take(s: &mut [u32; WORDS], p: usize) -> Told
         let l = link_at(&*s, i);
         return dispatch(&mut *s, p, i, l);
     }
-    coded(32)
+    coded(codes::NOTHING_WAITING)
 }
 
 pub(crate) fn is_request_end(p: usize, l: Link) -> bool
@@ -323,13 +324,13 @@ pub(crate) fn is_request_end(p: usize, l: Link) -> bool
 pub(crate) fn outcome_code(o: u32) -> i64
     ensures { λ r. ⌜ r ≡ outcomeCode o ⌝ }
 {
-    if o == 8 {
-        return 0;
+    if o == codes::TPEV_SVCSUCC {
+        return codes::TP_ACCEPTED;
     }
-    if o == 4 {
-        return 30;
+    if o == codes::TPEV_SVCFAIL {
+        return codes::TPESVCFAIL;
     }
-    31
+    codes::TPESVCERR
 }
 
 // The reply of link a, which stands at the place i, is taken, and the link goes.
@@ -356,19 +357,19 @@ pub(crate) fn tpgetrply(s: &mut [u32; WORDS], p: usize, a: u32) -> Told
     let i = place_of(&*s, a);
     let len = count(&*s);
     if len <= i {
-        return coded(24);
+        return coded(codes::NO_SUCH_END);
     }
     let l = link_at(&*s, i);
     let own = is_request_end(p, l);
     if !own {
-        return coded(24);
+        return coded(codes::NO_SUCH_END);
     }
     let late = is_expired(&*s, l.tx);
     if late {
-        return coded(28);
+        return coded(codes::TIMED_OUT);
     }
     if l.state != 2 {
-        return coded(32);
+        return coded(codes::NO_REPLY_YET);
     }
     fetch(&mut *s, i, a, l)
 }
@@ -394,15 +395,15 @@ pub(crate) fn tpcancel(s: &mut [u32; WORDS], p: usize, a: u32) -> Told
     let i = place_of(&*s, a);
     let len = count(&*s);
     if len <= i {
-        return coded(24);
+        return coded(codes::NO_SUCH_END);
     }
     let l = link_at(&*s, i);
     let own = is_request_end(p, l);
     if !own {
-        return coded(24);
+        return coded(codes::NO_SUCH_END);
     }
     if l.tx != 0 {
-        return coded(27);
+        return coded(codes::IN_TRANSACTION);
     }
     cancel(&mut *s, i, a, l);
     accept(0)

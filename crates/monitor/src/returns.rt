@@ -7,6 +7,7 @@ ghost use Rattle.rules.specs.Return.{plainOutcome, outcomeOf, unreadAfter, clos
 ghost use Rattle.monitor.specs.Words.{words};
 ghost use Rattle.monitor.specs.View.{view, ruledBy};
 use super::Told;
+use super::codes;
 use super::links::accept;
 use super::links::change_at;
 use super::links::close_end;
@@ -44,10 +45,10 @@ pub(crate) fn is_server_free(l: Link) -> bool
 pub(crate) fn plain_outcome(a: u32) -> u32
     ensures { λ r. ⌜ r ≡ plainOutcome a ⌝ }
 {
-    if a == 1 {
-        return 8;
+    if a == codes::TPSUCCESS {
+        return codes::TPEV_SVCSUCC;
     }
-    4
+    codes::TPEV_SVCFAIL
 }
 
 pub(crate) fn outcome_of(s: &[u32; WORDS], p: usize, a: u32, c: u32, l: Link) -> u32
@@ -58,23 +59,23 @@ pub(crate) fn outcome_of(s: &[u32; WORDS], p: usize, a: u32, c: u32, l: Link) ->
     let ends = has_own_end(s, p);
     let open = ends | !(owned == 0);
     if open {
-        return 2;
+        return codes::TPEV_SVCERR;
     }
     if l.kind != 1 {
         return plain_outcome(a);
     }
     if l.disconnected != 0 {
-        return 2;
+        return codes::TPEV_SVCERR;
     }
     let free = is_server_free(l);
     if free {
         return plain_outcome(a);
     }
-    let failing = (a == 2) & (c == 0);
+    let failing = (a == codes::TPFAIL) & (c == 0);
     if failing {
-        return 4;
+        return codes::TPEV_SVCFAIL;
     }
-    2
+    codes::TPEV_SVCERR
 }
 
 // The served link, its unread dropped or kept.
@@ -82,7 +83,7 @@ pub(crate) fn unread_after(o: u32, l: Link) -> Link
     ensures { λ r. ⌜ r ≡ unreadAfter o l ⌝ }
 {
     let free = is_server_free(l);
-    let drops = (o == 2) | !free;
+    let drops = (o == codes::TPEV_SVCERR) | !free;
     if drops {
         return drop_unread(l);
     }
@@ -145,7 +146,7 @@ pub(crate) fn set_served_rollback_only(s: &mut [u32; WORDS], o: u32, t: u32)
     requires { ⌜ length (now s) ≡ words ⌝ }
     ensures { λ _. ⌜ (view (now (s .exit)) ≡ rollbackOnlyServed o t (view (now (s .entry)))) × (length (now (s .exit)) ≡ words) ⌝ }
 {
-    if o == 8 {
+    if o == codes::TPEV_SVCSUCC {
         return;
     }
     set_rollback_only(&mut *s, t);
@@ -163,7 +164,7 @@ pub(crate) fn serve_none(s: &mut [u32; WORDS], p: usize)
 pub(crate) fn ending_of(o: u32, c: u32) -> u32
     ensures { λ r. ⌜ r ≡ endingOf o c ⌝ }
 {
-    if o == 2 {
+    if o == codes::TPEV_SVCERR {
         return 0;
     }
     c
@@ -220,11 +221,11 @@ pub(crate) fn tpreturn(s: &mut [u32; WORDS], p: usize, a: u32, c: u32) -> Told
 {
     let d = served_at(&*s, p);
     if d == 0 {
-        return coded(23);
+        return coded(codes::NOT_ALLOWED_NOW);
     }
-    let good = (a == 1) | (a == 2);
+    let good = (a == codes::TPSUCCESS) | (a == codes::TPFAIL);
     if !good {
-        return coded(22);
+        return coded(codes::BAD_ARGUMENT);
     }
     let i = place_of(&*s, d);
     let l = live_at(&*s, i);
@@ -243,7 +244,7 @@ pub(crate) fn die_out(s: &mut [u32; WORDS], p: usize)
         end_own(&mut *s, p);
         return;
     }
-    leave_link(&mut *s, p, d, 2, 0);
+    leave_link(&mut *s, p, d, codes::TPEV_SVCERR, 0);
 }
 
 // Kind 21.
@@ -258,5 +259,5 @@ pub(crate) fn terminate(s: &mut [u32; WORDS], p: usize) -> Told
     if d == 0 {
         return accept(0);
     }
-    accept(2)
+    accept(codes::TPEV_SVCERR)
 }

@@ -9,6 +9,7 @@ ghost use Rattle.rules.specs.Run.{callAt, placesOf, ranOf, answersOf, listed, l
 ghost use Rattle.monitor.specs.Words.{words};
 ghost use Rattle.monitor.specs.View.{view};
 use super::Ran;
+use super::codes;
 use super::sound::is_sound_in;
 use super::steps::call_on;
 use super::words::Store;
@@ -66,18 +67,18 @@ pub(crate) fn run_on(s: &mut [u32; WORDS], calls: &[u32], answers: &mut [i64]) -
     ensures { λ r. ⌜ (listed r (view (now (s .exit))) (now (answers .exit)) ≡ listOf (view (now (s .entry))) (now (calls .entry)) (now (answers .entry))) × (length (now (s .exit)) ≡ words) ⌝ }
 {
     if calls.len() % 6 != 0 {
-        return 17;
+        return codes::CUT_SHORT;
     }
     if answers.len() < calls.len() {
-        return 16;
+        return codes::TOO_LITTLE_ROOM;
     }
     let ok = is_sound_in(&*s);
     if !ok {
-        return 19;
+        return codes::UNSOUND;
     }
     let n = calls.len() / 6;
     run(&mut *s, calls, &mut *answers, n);
-    0
+    codes::LIST_RUN
 }
 
 // A whole list.

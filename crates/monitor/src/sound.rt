@@ -7,6 +7,7 @@ ghost use Rattle.rules.specs.Record.{live};
 ghost use Rattle.rules.specs.Sound.{linkGood, linksGood, choicesGood, partiesGood, sound};
 ghost use Rattle.monitor.specs.Served.{FoundAll};
 ghost use Rattle.monitor.specs.View.{view};
+use super::codes;
 use super::words::Store;
 use super::words::WORDS;
 use super::words::count;
@@ -28,7 +29,9 @@ pub(crate) fn link_good(l: Link) -> bool
                 & ((l.state <= 2)
                     & ((l.server <= 15)
                         & (((l.outcome == 0)
-                            | ((l.outcome == 2) | ((l.outcome == 4) | (l.outcome == 8))))
+                            | ((l.outcome == codes::TPEV_SVCERR)
+                                | ((l.outcome == codes::TPEV_SVCFAIL)
+                                    | (l.outcome == codes::TPEV_SVCSUCC))))
                             & ((l.sender <= 1)
                                 & ((l.granting <= 1)
                                     & ((l.disconnected <= 2)

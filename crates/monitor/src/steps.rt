@@ -9,6 +9,7 @@ ghost use Rattle.monitor.specs.Words.{words};
 ghost use Rattle.monitor.specs.View.{view, ruledBy, stepped, codeAnswer};
 use super::Stepped;
 use super::Told;
+use super::codes;
 use super::conversations::tpdiscon;
 use super::conversations::tprecv;
 use super::conversations::tpsend;
@@ -67,7 +68,7 @@ pub(crate) fn rule(s: &mut [u32; WORDS], p: usize, k: u32, a: u32, b: u32, c: u3
         19 => tpdiscon(&mut *s, p, a),
         20 => tpreturn(&mut *s, p, a, c),
         21 => terminate(&mut *s, p),
-        0 | 22..=4294967295 => coded(20),
+        0 | 22..=4294967295 => coded(codes::UNKNOWN_KIND),
     }
 }
 
@@ -127,10 +128,10 @@ pub(crate) fn call_on(s: &mut [u32; WORDS], c: Call) -> Answer
 {
     let known = (1 <= c.kind) & (c.kind <= 21);
     if !known {
-        return turn_down(20);
+        return turn_down(codes::UNKNOWN_KIND);
     }
     if c.party > 15 {
-        return turn_down(21);
+        return turn_down(codes::UNKNOWN_PARTY);
     }
     advance(&mut *s, c.clock);
     let p = c.party as usize;
@@ -145,7 +146,7 @@ pub(crate) fn step_on(s: &mut [u32; WORDS], call: Call) -> Answer
 {
     let ok = is_sound_in(&*s);
     if !ok {
-        return turn_down(19);
+        return turn_down(codes::UNSOUND);
     }
     call_on(&mut *s, call)
 }
