@@ -5,6 +5,7 @@ ghost use Rattle.listing.specs.Piece.{shown, listedOf};
 use super::text::put_lines;
 use super::text::put_refusal;
 use monitor::Store;
+use monitor::codes;
 use monitor::run_piece;
 
 // What a piece gives: the record after its calls, how many of its bytes those took, how many bytes of text they made, and the code that ended it:
@@ -27,7 +28,7 @@ pub fn list_piece(m: Store, input: &[u8], last: bool, answers: &mut [i64], out: 
             store: m,
             used: 0,
             written: 0,
-            code: 16,
+            code: codes::TOO_LITTLE_ROOM,
         };
     }
     if (room - 22) / 132 < most {
@@ -35,7 +36,7 @@ pub fn list_piece(m: Store, input: &[u8], last: bool, answers: &mut [i64], out: 
             store: m,
             used: 0,
             written: 0,
-            code: 16,
+            code: codes::TOO_LITTLE_ROOM,
         };
     }
     let ran = run_piece(m, input, last, &mut *answers);

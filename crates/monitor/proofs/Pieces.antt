@@ -14,7 +14,7 @@ use lib.ListN.{length, drop, getD, length-append, length-drop, List·getD-append
 use lib.Seq.{take-at, drop-append-le}
 use Rattle.number.proofs.Reading.{below-or-not}
 use Rattle.rules.specs.Choice.{pick}
-use Rattle.rules.specs.Codes.{unsound}
+use Rattle.rules.specs.Codes.{fileRun, cutShort, unsound}
 use Rattle.rules.specs.Sound.{sound}
 use Rattle.rules.specs.Step.{callOf}
 use Rattle.rules.specs.Run.{callAt, placesOf, ranOf, answersOf}
@@ -151,10 +151,10 @@ module _ (m : Monitor) (left more : List ℕ) (last : Bool) (ended : last ≡ tr
       (λ l. broken-whole code (ap (λ (x : List ℕ). readCall x 0) (ap (λ (x : List ℕ). left ++ x) (ended l) ∙ append-nil left) ∙ e)
       ∙ ap (λ (b : Bool). passed m (codeAt b (broken code)) 0 0 []) (sym l))
       (λ l. not-both over
-      (ap (λ (b : Bool). isOver last (pick b (pick last (pos 17) (pos 0)) (pos code)) (length left)) cut ∙ ap (λ (b : Bool). isOver b (pick b (pos 17) (pos 0)) (length left)) l)))
+      (ap (λ (b : Bool). isOver last (pick b (pick last cutShort fileRun) (pos code)) (length left)) cut ∙ ap (λ (b : Bool). isOver b (pick b cutShort fileRun) (length left)) l)))
       (λ whole. broken-whole code (call-extends left more 0 (inside code e) (λ f. let same : code ≡ 17 = cc in eqb-false code 17 whole same) ∙ e)
-      ∙ ap (λ (b : Bool). passed m (pick b (pos 17) (pos code)) 0 0 []) whole
-      ∙ ap (λ (b : Bool). passed m (pick b (pick last (pos 17) (pos 0)) (pos code)) 0 0 []) (sym whole))
+      ∙ ap (λ (b : Bool). passed m (pick b cutShort (pos code)) 0 0 []) whole
+      ∙ ap (λ (b : Bool). passed m (pick b (pick last cutShort fileRun) (pos code)) 0 0 []) (sym whole))
 
 -- A turn that is not the last takes some bytes, or leaves at most 30 of an input that has not ended.
 module _ (m : Monitor) (bytes : List ℕ) (last : Bool) (out : List ℤ) (room : 6 ≤ length out) where
@@ -286,7 +286,7 @@ turns-whole (chunk ∷ chunks) final lent room m shape kept m₀ code₀ =
 -- What a file gives that is run in pieces depends on its bytes alone.
 pub pieces-whole : (m : Monitor) → Shape m → (chunks : List (List ℕ)) (final : List ℕ) (lent : ℕ → List ℤ) → Roomy lent
     → piecesOf m chunks final lent ≡ wholeOf m (joined chunks final)
-pieces-whole m shape chunks final lent room = turns-whole chunks final lent room m shape [] m (pos 0)
+pieces-whole m shape chunks final lent room = turns-whole chunks final lent room m shape [] m fileRun
 
 -- the whole file has an answer's six places for each call that was run
 pub whole-long : (m : Monitor) (input : List ℕ) → length (wholeOf m input .places) ≡ wholeOf m input .calls * 6

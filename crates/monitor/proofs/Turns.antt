@@ -9,9 +9,10 @@ use native.Mathlib.Omega.{arith}
 use borrow.Author.Tests.{eq-eqb, le-leb}
 use lib.ListN.{length, take, drop, getD, length-append, length-drop}
 use lib.Seq.{getD-drop, drop-drop, take-at, drop-at, length-take-le}
-use lib.IntN.{ℤ, pos}
+use lib.IntN.{ℤ}
 use Rattle.rules.specs.declared.Monitor.{Monitor}
 use Rattle.rules.specs.declared.Stepped.{Stepped}
+use Rattle.rules.specs.Codes.{listRun}
 use Rattle.rules.specs.Sound.{sound}
 use Rattle.rules.specs.Step.{callOf}
 use Rattle.rules.specs.declared.Call.{Call}
@@ -93,7 +94,7 @@ module _ (n i : ℕ) (h : i < n) (calls : List ℕ) (cur m₀ : Monitor) (s : St
 
 -- a list that is neither cut short nor short of room, on a sound record
 pub list-ran : (m : Monitor) (cs : List ℕ) (out : List ℤ) → length cs % 6 ≡ 0 → length cs ≤ length out → sound m ≡ true
-    → (m′ : Monitor) (out′ : List ℤ) → m′ ≡ ranOf (callsIn cs) m cs → out′ ≡ answersOf (callsIn cs) m cs ++ drop (callsIn cs * 6) out → listed (pos 0) m′ out′ ≡ listOf m cs out
+    → (m′ : Monitor) (out′ : List ℤ) → m′ ≡ ranOf (callsIn cs) m cs → out′ ≡ answersOf (callsIn cs) m cs ++ drop (callsIn cs * 6) out → listed listRun m′ out′ ≡ listOf m cs out
 unfolding listOf
 list-ran m cs out six room fine m′ out′ e f =
-    (λ i. listed (pos 0) (e i) (f i)) ∙ sym (pick-true _ _ _ (eq-eqb _ _ six) ∙ pick-true _ _ _ (le-leb _ _ room) ∙ pick-true _ _ _ fine)
+    (λ i. listed listRun (e i) (f i)) ∙ sym (pick-true _ _ _ (eq-eqb _ _ six) ∙ pick-true _ _ _ (le-leb _ _ room) ∙ pick-true _ _ _ fine)

@@ -9,7 +9,7 @@ use lib.ListN.{take, drop, length}
 use Rattle.number.specs.Reader.{Reading, number, refused, readNumber}
 use Rattle.number.specs.Writer.{numberBytes}
 use Rattle.rules.specs.Choice.{pick}
-use Rattle.rules.specs.Codes.{tooLittleRoom, unsound}
+use Rattle.rules.specs.Codes.{fileRun, tooLittleRoom, cutShort, unsound}
 use Rattle.rules.specs.Sound.{sound}
 use Rattle.rules.specs.Run.{callAt, ranOf, answersOf}
 use Rattle.rules.specs.declared.Call.{Call}
@@ -102,9 +102,9 @@ fileCalls input = callsFrom (length input) input 0
 -- The code at the place after the calls that were run: a refusal, or 0 where the file ends there or a call stands there that was not run.
 -- A call that is cut short is no refusal where the file may go on.
 unfoldable pub codeAt : Bool → CallReading → ℤ
-codeAt last (called c next) = pos 0
-codeAt last nothing = pos 0
-codeAt last (broken code) = pick (eqb code 17) (pick last (pos 17) (pos 0)) (pos code)
+codeAt last (called c next) = fileRun
+codeAt last nothing = fileRun
+codeAt last (broken code) = pick (eqb code 17) (pick last cutShort fileRun) (pos code)
 
 -- ---- running
 

@@ -7,6 +7,7 @@ use lib.Dec.{eqb}
 use lib.IntN.{ℤ, pos, negsuc}
 use lib.ListN.{take, drop, length}
 use Rattle.rules.specs.Choice.{pick}
+use Rattle.rules.specs.Codes.{fileRun}
 use Rattle.rules.specs.declared.Monitor.{Monitor}
 use Rattle.monitor.specs.File.{Passed, passed, pieceOf}
 
@@ -66,7 +67,7 @@ together m code (p ∷ ps) = inFront p (together (p .monitor) (p .code) ps)
 
 -- a file run in pieces
 abbrev pub piecesOf : Monitor → List (List ℕ) → List ℕ → (ℕ → List ℤ) → Passed
-piecesOf m chunks final lent = together m (pos 0) (turnsOf chunks final lent m [])
+piecesOf m chunks final lent = together m fileRun (turnsOf chunks final lent m [])
 
 -- the answers at the front of these places
 abbrev pub onto : List ℤ → Passed → Passed

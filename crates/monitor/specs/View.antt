@@ -7,7 +7,7 @@ use mathlib.Core.List.{List, [], _∷_}
 use lib.Dec.{ltb}
 use lib.ListN.{length, getD, drop}
 use lib.Seq.{paste}
-use lib.IntN.{ℤ, pos}
+use lib.IntN.{ℤ}
 use Rattle.rules.specs.declared.Party.{Party}
 use Rattle.rules.specs.declared.Link.{Link}
 use Rattle.rules.specs.declared.Monitor.{Monitor}
@@ -15,6 +15,7 @@ use Rattle.rules.specs.declared.Ruled.{Ruled}
 use Rattle.rules.specs.declared.Answer.{Answer}
 use Rattle.rules.specs.declared.Stepped.{Stepped}
 use Rattle.rules.specs.Choice.{pick, same}
+use Rattle.rules.specs.Codes.{tpAccepted}
 use Rattle.rules.specs.Record.{freshLink, blanks, live, withLinks, replaced}
 use Rattle.monitor.specs.Words.{words, readLink, readServices, readDeadline, readParty}
 use Rattle.monitor.specs.declared.Told.{Told}
@@ -73,7 +74,7 @@ abbrev pub toldCode : ℤ → Told
 toldCode code = record { code = code; value = 0; event = 0; token = 0; service = 0 }
 
 abbrev pub toldValue : ℕ → Told
-toldValue v = record { code = pos 0; value = v; event = 0; token = 0; service = 0 }
+toldValue v = record { code = tpAccepted; value = v; event = 0; token = 0; service = 0 }
 
 abbrev pub stepped : Answer → Monitor → Stepped
 stepped r m = record { monitor = m; answer = r }

@@ -34,11 +34,11 @@ use rules::Link;
 use rules::Monitor;
 use rules::Party;
 
-// The flags of a request: 1 TPNOREPLY, 2 TPNOTRAN; of a connect: 2, 4 TPSENDONLY, 8 TPRECVONLY.
+// The flags of a request: TPNOREPLY and TPNOTRAN; of a connect: TPNOTRAN, TPSENDONLY, TPRECVONLY.
 pub(crate) fn no_reply(b: u32) -> bool
     ensures { λ r. ⌜ r ≡ noReply b ⌝ }
 {
-    b % 2 == 1
+    b / codes::TPNOREPLY % 2 == 1
 }
 
 pub(crate) fn no_tran(b: u32) -> bool
@@ -50,14 +50,16 @@ pub(crate) fn no_tran(b: u32) -> bool
 pub(crate) fn connect_flags(b: u32) -> bool
     ensures { λ r. ⌜ r ≡ connectFlags b ⌝ }
 {
-    (b <= 15) & ((b % 2 == 0) & !(b / codes::TPSENDONLY % 2 == b / codes::TPRECVONLY % 2))
+    (b <= 15)
+        & ((b / codes::TPNOREPLY % 2 == 0)
+            & !(b / codes::TPSENDONLY % 2 == b / codes::TPRECVONLY % 2))
 }
 
 // A new link with the flags b: its originator's end, its sender and its transaction.
 pub(crate) fn open_end(b: u32) -> u32
     ensures { λ r. ⌜ r ≡ pick (noReply b) 0 1 ⌝ }
 {
-    if b % 2 == 1 {
+    if b / codes::TPNOREPLY % 2 == 1 {
         return 0;
     }
     1

@@ -1,6 +1,7 @@
--- The answers' numbers, by meaning.
+-- The numbers of calls and answers, by meaning.
 -- Assumes nothing.
-use lib.IntN.{ℤ, pos, negsuc, _-ℤ_}
+use Prim.Native.Nat.{ℕ}
+use lib.IntN.{ℤ, pos, negsuc, _+ℤ_}
 
 -- ---- TX (document 002)
 abbrev pub txOk : ℤ
@@ -29,12 +30,18 @@ abbrev pub txEinval : ℤ
 txEinval = negsuc 7
 
 -- TX_NO_BEGIN and its kin: the transaction is over as the code says, and no new one could begin
-unfoldable pub noBegin : ℤ → ℤ
-noBegin code = code -ℤ pos 100
+abbrev pub txNoBegin : ℤ
+txNoBegin = negsuc 99
 
--- ---- a list of calls was run
+unfoldable pub noBegin : ℤ → ℤ
+noBegin code = code +ℤ txNoBegin
+
+-- ---- a list of calls was run; a drill file, or a piece of one
 abbrev pub listRun : ℤ
 listRun = pos 0
+
+abbrev pub fileRun : ℤ
+fileRun = pos 0
 
 -- ---- refusals of a list, a record or a call
 abbrev pub tooLittleRoom : ℤ
@@ -101,3 +108,49 @@ tpeSvcFail = pos 30
 
 abbrev pub tpeSvcErr : ℤ
 tpeSvcErr = pos 31
+
+-- ---- events; how a service returned is its link's outcome, too
+abbrev pub tpevDisconImm : ℕ
+tpevDisconImm = 1
+
+abbrev pub tpevSvcErr : ℕ
+tpevSvcErr = 2
+
+abbrev pub tpevSvcFail : ℕ
+tpevSvcFail = 4
+
+abbrev pub tpevSvcSucc : ℕ
+tpevSvcSucc = 8
+
+abbrev pub tpevSendOnly : ℕ
+tpevSendOnly = 32
+
+-- of a dispatch: a request; a conversation whose server receives, or sends
+abbrev pub requestDispatched : ℕ
+requestDispatched = 64
+
+abbrev pub receiverDispatched : ℕ
+receiverDispatched = 65
+
+abbrev pub senderDispatched : ℕ
+senderDispatched = 66
+
+-- ---- flags of a request or a connect
+abbrev pub tpNoReply : ℕ
+tpNoReply = 1
+
+abbrev pub tpNoTran : ℕ
+tpNoTran = 2
+
+abbrev pub tpSendOnly : ℕ
+tpSendOnly = 4
+
+abbrev pub tpRecvOnly : ℕ
+tpRecvOnly = 8
+
+-- ---- how a service means to return
+abbrev pub tpSuccess : ℕ
+tpSuccess = 1
+
+abbrev pub tpFail : ℕ
+tpFail = 2

@@ -5,7 +5,7 @@ use mathlib.Core.Bool.{Bool, not, _&&_, _||_}
 use lib.ListN.{getD}
 use lib.Dec.{eqb, ltb, leb}
 use Rattle.rules.specs.Choice.{pick, same}
-use Rattle.rules.specs.Codes.{badArgument, notAllowedNow, noSuchEnd, timedOut, nothingUnread, unreadFull, tpAccepted, tpeEvent}
+use Rattle.rules.specs.Codes.{badArgument, notAllowedNow, noSuchEnd, timedOut, nothingUnread, unreadFull, tpAccepted, tpeEvent, tpevDisconImm, tpevSvcSucc, tpevSendOnly}
 use Rattle.rules.specs.Record.{isConversation, isWorking, isReturned, isDisconnected, isNotified, ownEnd, linkOf, disconnectedLink, notified, withSent, withoutOldest, changed, removed, valued, ask}
 use Rattle.rules.specs.Transaction.{expired, rollbackOnlyTx}
 use Rattle.rules.specs.declared.Ruled.{Ruled}
@@ -44,7 +44,7 @@ isSender p l = same (l .sender) (endSide p l)
 -- ---- what the end's party learns
 -- "29, event 1, and is told"
 unfoldable pub tellsDisconnect : Monitor → ℕ → Link → Ruled
-tellsDisconnect m a l = record { monitor = changed m a (notified l); code = tpeEvent; value = 0; event = 1; token = 0; service = 0 }
+tellsDisconnect m a l = record { monitor = changed m a (notified l); code = tpeEvent; value = 0; event = tpevDisconImm; token = 0; service = 0 }
 
 -- "29, event the outcome, and the ending token; the link goes"
 unfoldable pub tellsReturn : Monitor → ℕ → Link → Ruled
@@ -57,7 +57,7 @@ sendOn m p a b c l =
     (ask m (leb b 1) badArgument
     (ask m (not (expired m (l .tx))) timedOut
     (pick (hearsDisconnect p l) (tellsDisconnect m a l)
-    (pick (hearsReturn p l && not (eqb (l .outcome) 8)) (tellsReturn m a l)
+    (pick (hearsReturn p l && not (eqb (l .outcome) tpevSvcSucc)) (tellsReturn m a l)
     (ask m (isSender p l && eqb (l .granting) 0) notAllowedNow
     (ask m (ltb (l .filled) 4) unreadFull
     (valued (changed m a (withSent l b c)) 0)))))))
@@ -75,7 +75,7 @@ carriesGrant l = eqb (l .filled) 1 && eqb (l .granting) 1
 unfoldable pub received : Monitor → ℕ → ℕ → Link → Ruled
 received m p a l =
     pick (carriesGrant l)
-    (record { monitor = changed m a (withoutOldest l (endSide p l) 0); code = tpeEvent; value = 0; event = 32; token = getD (l .unread) 0 0; service = 0 })
+    (record { monitor = changed m a (withoutOldest l (endSide p l) 0); code = tpeEvent; value = 0; event = tpevSendOnly; token = getD (l .unread) 0 0; service = 0 })
     (record { monitor = changed m a (withoutOldest l (l .sender) (l .granting)); code = tpAccepted; value = 0; event = 0; token = getD (l .unread) 0 0; service = 0 })
 
 unfoldable pub receiveOn : Monitor → ℕ → ℕ → Link → Ruled

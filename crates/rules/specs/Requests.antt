@@ -6,7 +6,7 @@ use lib.ListN.{getD}
 use lib.Dec.{eqb, ltb, leb}
 use lib.IntN.{ℤ}
 use Rattle.rules.specs.Choice.{pick}
-use Rattle.rules.specs.Codes.{badArgument, notAllowedNow, noSuchEnd, notOffered, noRoomLeft, inTransaction, timedOut, nothingWaiting, noReplyYet, tpAccepted, tpeSvcFail, tpeSvcErr}
+use Rattle.rules.specs.Codes.{badArgument, notAllowedNow, noSuchEnd, notOffered, noRoomLeft, inTransaction, timedOut, nothingWaiting, noReplyYet, tpAccepted, tpeSvcFail, tpeSvcErr, tpevSvcFail, tpevSvcSucc, requestDispatched, receiverDispatched, senderDispatched, tpNoReply, tpNoTran, tpSendOnly, tpRecvOnly}
 use Rattle.rules.specs.Lists.{firstOf, anyOf}
 use Rattle.rules.specs.Record.{freshLink, isOpened, isRequest, isWaiting, isReturned, ownEnd, party, live, linkOf, serving, closed, newLink, working, withParty, replaced, changed, removed, added, valued, ask}
 use Rattle.rules.specs.Transaction.{txOf, ended, expired}
@@ -16,19 +16,23 @@ use Rattle.rules.specs.declared.Party.{Party}
 use Rattle.rules.specs.declared.Link.{Link}
 use Rattle.rules.specs.declared.Monitor.{Monitor}
 
--- ---- flags: 1 TPNOREPLY, 2 TPNOTRAN, 4 TPSENDONLY, 8 TPRECVONLY
+-- ---- flags
+-- 1 if the flag is among those of b, else 0
+abbrev pub flagOf : ℕ → ℕ → ℕ
+flagOf flag b = b / flag % 2
+
 abbrev pub noReply : ℕ → Bool
-noReply b = eqb (b % 2) 1
+noReply b = eqb (flagOf tpNoReply b) 1
 
 abbrev pub noTran : ℕ → Bool
-noTran b = eqb (b / 2 % 2) 1
+noTran b = eqb (flagOf tpNoTran b) 1
 
 abbrev pub recvOnly : ℕ → Bool
-recvOnly b = eqb (b / 8 % 2) 1
+recvOnly b = eqb (flagOf tpRecvOnly b) 1
 
 -- of a connect: 2, 4 and 8 alone, one of 4 and 8
 abbrev pub connectFlags : ℕ → Bool
-connectFlags b = leb b 15 && (eqb (b % 2) 0 && not (eqb (b / 4 % 2) (b / 8 % 2)))
+connectFlags b = leb b 15 && (eqb (flagOf tpNoReply b) 0 && not (eqb (flagOf tpSendOnly b) (flagOf tpRecvOnly b)))
 
 -- "The link is of T unless b has 2."
 unfoldable pub linkTx : Monitor → ℕ → ℕ → ℕ
@@ -50,7 +54,7 @@ askLink m t a rest =
 
 -- 12 request a, flags b (1 no reply, 2 no transaction), token c: service and flags good, and no bare 1 in T? 22
 abbrev pub isBareNoReply : ℕ → Bool
-isBareNoReply b = eqb b 1
+isBareNoReply b = eqb b tpNoReply
 
 unfoldable pub requestOf : Monitor → ℕ → ℕ → ℕ → ℕ → Ruled
 requestOf m p a b c =
@@ -80,7 +84,7 @@ fits q l = isWaiting l && offers (l .service) q
 
 -- "event 64 request, 65 server receives, 66 server sends"
 unfoldable pub dispatchEvent : Link → ℕ
-dispatchEvent l = pick (isRequest l) 64 (pick (eqb (l .sender) 0) 65 66)
+dispatchEvent l = pick (isRequest l) requestDispatched (pick (eqb (l .sender) 0) receiverDispatched senderDispatched)
 
 -- the link l at the place i becomes working for party p
 unfoldable pub dispatched : Monitor → ℕ → ℕ → Link → Ruled
@@ -111,7 +115,7 @@ requestEnd p l = isRequest l && ownEnd p l
 
 -- "Outcome 8 gives 0, 4 gives 30, 2 gives 31"
 unfoldable pub outcomeCode : ℕ → ℤ
-outcomeCode o = pick (eqb o 8) tpAccepted (pick (eqb o 4) tpeSvcFail tpeSvcErr)
+outcomeCode o = pick (eqb o tpevSvcSucc) tpAccepted (pick (eqb o tpevSvcFail) tpeSvcFail tpeSvcErr)
 
 -- the reply of link a is taken, and the link goes
 unfoldable pub fetched : Monitor → ℕ → Link → Ruled

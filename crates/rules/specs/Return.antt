@@ -5,7 +5,7 @@ use mathlib.Core.List.{List, [], _∷_}
 use mathlib.Core.Bool.{not, _&&_, _||_}
 use lib.Dec.{eqb}
 use Rattle.rules.specs.Choice.{pick}
-use Rattle.rules.specs.Codes.{badArgument, notAllowedNow}
+use Rattle.rules.specs.Codes.{badArgument, notAllowedNow, tpevSvcErr, tpevSvcFail, tpevSvcSucc, tpSuccess, tpFail}
 use Rattle.rules.specs.Lists.{anyOf, collect}
 use Rattle.rules.specs.Record.{freshParty, isConversation, isAttached, isWorking, isReturned, isServerFree, ownEnd, party, live, linkOf, serving, closed, dropped, disconnectedLink, returned, withParties, withParty, rebuilt, changed, removed, valued, ask}
 use Rattle.rules.specs.Transaction.{rollbackOnlyIn, rollbackOnlyTx, endTx}
@@ -18,22 +18,22 @@ use Rattle.rules.specs.declared.Monitor.{Monitor}
 -- ---- the outcome
 -- "8 or 4 by a"
 unfoldable pub plainOutcome : ℕ → ℕ
-plainOutcome a = pick (eqb a 1) 8 4
+plainOutcome a = pick (eqb a tpSuccess) tpevSvcSucc tpevSvcFail
 
 -- "2 if it has open originator ends or owns a transaction; for a conversation, else 2 if cut or told; else, if it is
 -- not the free holder, 4 when a = 2 and c = 0 and otherwise 2; else 8 or 4 by a"
 unfoldable pub outcomeOf : Monitor → ℕ → ℕ → ℕ → Link → ℕ
 outcomeOf m p a c l =
-    pick (anyOf (ownEnd p) (live m) || not (eqb (party m p .owned) 0)) 2
+    pick (anyOf (ownEnd p) (live m) || not (eqb (party m p .owned) 0)) tpevSvcErr
     (pick (isConversation l)
-    (pick (not (eqb (l .disconnected) 0)) 2
+    (pick (not (eqb (l .disconnected) 0)) tpevSvcErr
     (pick (isServerFree l) (plainOutcome a)
-    (pick (eqb a 2 && eqb c 0) 4 2)))
+    (pick (eqb a tpFail && eqb c 0) tpevSvcFail tpevSvcErr)))
     (plainOutcome a))
 
 -- "If outcome is 2, or it wasn't the free holder, unread is dropped."
 unfoldable pub unreadAfter : ℕ → Link → Link
-unreadAfter o l = pick (eqb o 2 || not (isServerFree l)) (dropped l) l
+unreadAfter o l = pick (eqb o tpevSvcErr || not (isServerFree l)) (dropped l) l
 
 -- ---- "Its own links close (conversations as by 19, requests as by 16, whatever their transaction)"
 -- what is left of a link as party p's own ends close
@@ -59,7 +59,7 @@ endOwn m p = pick (eqb (party m p .owned) 0) m (endTx m p)
 
 -- "Outcome 4 or 2 dooms the served link's live T, fetched or not."
 unfoldable pub rollbackOnlyServed : ℕ → ℕ → Monitor → Monitor
-rollbackOnlyServed o t m = pick (eqb o 8) m (rollbackOnlyTx m t)
+rollbackOnlyServed o t m = pick (eqb o tpevSvcSucc) m (rollbackOnlyTx m t)
 
 -- "The party serves none"
 unfoldable pub servesNone : Monitor → ℕ → Monitor
@@ -68,7 +68,7 @@ servesNone m p = withParty m p (serving (party m p) 0)
 -- ---- "the link is returned, or goes if the originator's end is closed"
 -- "Ending token: c, but 0 for outcome 2."
 unfoldable pub endingOf : ℕ → ℕ → ℕ
-endingOf o c = pick (eqb o 2) 0 c
+endingOf o c = pick (eqb o tpevSvcErr) 0 c
 
 unfoldable pub handBack : Monitor → ℕ → ℕ → ℕ → Monitor
 handBack m d o e = pick (isAttached (linkOf m d)) (changed m d (returned (linkOf m d) o e)) (removed m d)
@@ -86,13 +86,13 @@ returnWith m p o c = valued (leave m p (party m p .served) o (endingOf o c)) o
 unfoldable pub returnOf : Monitor → ℕ → ℕ → ℕ → Ruled
 returnOf m p a c =
     ask m (not (eqb (party m p .served) 0)) notAllowedNow
-    (ask m (eqb a 1 || eqb a 2) badArgument
+    (ask m (eqb a tpSuccess || eqb a tpFail) badArgument
     (returnWith m p (outcomeOf m p a c (linkOf m (party m p .served))) c))
 
 -- ---- 21 fall: the party died
 -- what it leaves behind: "if serving, as return with outcome 2 ..; its links close, its transaction ends"
 unfoldable pub diedOut : Monitor → ℕ → Monitor
-diedOut m p = pick (eqb (party m p .served) 0) (endOwn (closeOwn m p) p) (leave m p (party m p .served) 2 0)
+diedOut m p = pick (eqb (party m p .served) 0) (endOwn (closeOwn m p) p) (leave m p (party m p .served) tpevSvcErr 0)
 
 -- "the party is fresh", by what it was
 abbrev pub afterDeath : Party → Party
@@ -100,4 +100,4 @@ afterDeath q = freshParty
 
 unfoldable pub terminateOf : Monitor → ℕ → Ruled
 terminateOf m p =
-    valued (withParty (diedOut m p) p (afterDeath (party m p))) (pick (eqb (party m p .served) 0) 0 2)
+    valued (withParty (diedOut m p) p (afterDeath (party m p))) (pick (eqb (party m p .served) 0) 0 tpevSvcErr)

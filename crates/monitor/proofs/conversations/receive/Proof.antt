@@ -1,5 +1,6 @@
 -- `conversations::receive` meets its contract.
-use Rattle.monitor.proofs.Usual.{ℕ, getD, ap, sym, _∙_, pos, needs, pick-true, pick-false, withoutOldest, received, view}
+use Rattle.monitor.proofs.Usual.{ℕ, getD, ap, sym, _∙_, needs, pick-true, pick-false, withoutOldest, received, view}
+use Rattle.rules.specs.Codes.{tpAccepted, tpeEvent, tpevSendOnly}
 use Rattle.monitor.proofs.Talking.{changes}
 use Rattle.monitor.proofs.conversations.receive.Statement.{statement}
 use Rattle.monitor.proofs.conversations.receive.Tie as tie
@@ -27,7 +28,7 @@ returns c =
     let k = c .before .before .without-oldest .ensures ∙ ap (λ (e : ℕ). withoutOldest (a .l) e 0) (c .before .before .before .end-side .ensures) in
     let n = changes (view (a .s .now)) (a .a) (c .put-link .ensures .0) (s .pre .2) (s .pre .3) k in
     let r = sym (pick-true _ _ _ (sym (c .before .before .before .before .before .carries-grant .ensures) ∙ c .before .before .before .before .if1 .taken)) in
-    ((λ i. record { monitor = n i; code = pos 29; value = 0; event = 32; token = getD (a .l .unread) 0 0; service = 0 }) ∙ r, c .put-link .ensures .1)
+    ((λ i. record { monitor = n i; code = tpeEvent; value = 0; event = tpevSendOnly; token = getD (a .l .unread) 0 0; service = 0 }) ∙ r, c .put-link .ensures .1)
 
 without-oldest-requires-2 : tie.Need-without-oldest-requires-2
 without-oldest-requires-2 c κs = search needs
@@ -42,7 +43,7 @@ returns-2 c =
     let a = s .args in
     let n = changes (view (a .s .now)) (a .a) (c .put-link2 .ensures .0) (s .pre .2) (s .pre .3) (c .before .before .without-oldest2 .ensures) in
     let r = sym (pick-false _ _ _ (sym (c .before .before .before .before .carries-grant .ensures) ∙ c .before .before .before .if1 .left)) in
-    ((λ i. record { monitor = n i; code = pos 0; value = 0; event = 0; token = getD (a .l .unread) 0 0; service = 0 }) ∙ r, c .put-link2 .ensures .1)
+    ((λ i. record { monitor = n i; code = tpAccepted; value = 0; event = 0; token = getD (a .l .unread) 0 0; service = 0 }) ∙ r, c .put-link2 .ensures .1)
 
 pub receive-spec : {M : Type 1} → statement M
 receive-spec =

@@ -1,6 +1,6 @@
 -- `conversations::send_on` meets its contract.
 use Rattle.monitor.proofs.Usual.{_≡_, ap, ap₂, sym, _∙_, true, not, _&&_, arith, needs, eqb, leb, lt-ltb, le-ltb, le-leb, lt-leb, not-true, not-false, Ruled, pick, pick-true, pick-false, noSuchEnd, timedOut, ask, expired, anyEnd, hearsDisconnect, hearsReturn, isSender, sendOn, view, ruledBy}
-use Rattle.rules.specs.Codes.{badArgument}
+use Rattle.rules.specs.Codes.{badArgument, tpevSvcSucc}
 use Rattle.monitor.proofs.Talking.{refused, changes}
 use Rattle.monitor.proofs.conversations.send_on.Statement.{statement}
 use Rattle.monitor.proofs.conversations.send_on.Tie as tie
@@ -17,7 +17,7 @@ talks c x r =
     ∙ pick-false _ _ _ (sym (c .before .hears-disconnect .ensures) ∙ c .if4 .left)
 
 -- the two questions that the code asks with an answer of its own
-failing : (c : tie.After-hears-return) → let a = c .before .before .before .before .before .before .before .before .before .args in (hearsReturn (a .p) (a .l) && not (eqb (a .l .outcome) 8)) ≡ (c .hears-return .result && not (eqb (a .l .outcome) 8))
+failing : (c : tie.After-hears-return) → let a = c .before .before .before .before .before .before .before .before .before .args in (hearsReturn (a .p) (a .l) && not (eqb (a .l .outcome) tpevSvcSucc)) ≡ (c .hears-return .result && not (eqb (a .l .outcome) tpevSvcSucc))
 failing c = rw (c .hears-return .ensures)
 
 sending : (c : tie.After-is-sender) → let a = c .before .before .before .before .before .before .before .before .before .before .before .before .args in (isSender (a .p) (a .l) && eqb (a .l .granting) 0) ≡ (c .is-sender .result && eqb (a .l .granting) 0)

@@ -1,5 +1,6 @@
 -- `conversations::tell_return` meets its contract.
-use Rattle.monitor.proofs.Usual.{pos, needs, tellsReturn}
+use Rattle.monitor.proofs.Usual.{needs, tellsReturn}
+use Rattle.rules.specs.Codes.{tpeEvent}
 use Rattle.monitor.proofs.conversations.tell_return.Statement.{statement}
 use Rattle.monitor.proofs.conversations.tell_return.Tie as tie
 
@@ -10,7 +11,7 @@ returns : tie.Need-returns
 unfolding tellsReturn
 returns c =
     let l = c .before .before .args .l in
-    (λ i. record { monitor = c .remove-at .ensures .0 i; code = pos 29; value = 0; event = l .outcome; token = l .ending; service = 0 }, c .remove-at .ensures .1)
+    (λ i. record { monitor = c .remove-at .ensures .0 i; code = tpeEvent; value = 0; event = l .outcome; token = l .ending; service = 0 }, c .remove-at .ensures .1)
 
 pub tell-return-spec : {M : Type 1} → statement M
 tell-return-spec = tie.close (tie.spec remove-at-requires returns)

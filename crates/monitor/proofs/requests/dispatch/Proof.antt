@@ -1,5 +1,6 @@
 -- `requests::dispatch` meets its contract.
-use Rattle.monitor.proofs.Usual.{ap, _∙_, needs, pos, Monitor, Party, replaced, withParty, dispatched, view}
+use Rattle.monitor.proofs.Usual.{ap, _∙_, needs, Monitor, Party, replaced, withParty, dispatched, view}
+use Rattle.rules.specs.Codes.{tpAccepted}
 use Rattle.rules.specs.Record.{serving, working}
 use Rattle.monitor.proofs.requests.dispatch.Statement.{statement}
 use Rattle.monitor.proofs.requests.dispatch.Tie as tie
@@ -28,7 +29,7 @@ returns c =
     c .put-link .ensures .0
     ∙ ap (λ (k : Monitor). replaced k (a .i) (working (a .l) (a .p))) (c .before .before .put-party .ensures .0)
     ∙ ap (λ (q : Party). replaced (withParty m (a .p) (serving q (a .l .number))) (a .i) (working (a .l) (a .p))) (c .before .before .before .before .party-at .ensures) in
-    (λ z. record { monitor = n z; code = pos 0; value = a .l .number; event = c .before .before .before .before .before .before .dispatch-event .ensures z; token = a .l .first; service = a .l .service }, c .put-link .ensures .1)
+    (λ z. record { monitor = n z; code = tpAccepted; value = a .l .number; event = c .before .before .before .before .before .before .dispatch-event .ensures z; token = a .l .first; service = a .l .service }, c .put-link .ensures .1)
 
 pub dispatch-spec : {M : Type 1} → statement M
 dispatch-spec =

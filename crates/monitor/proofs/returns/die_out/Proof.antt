@@ -1,6 +1,7 @@
 -- `returns::die_out` meets its contract.
 -- Assumes nothing.
 use Rattle.monitor.proofs.Usual.{ℕ, _≡_, ap, sym, _∙_, needs, eq-eqb, ne-eqb, Monitor, party, closeOwn, endOwn, leave, diedOut, pick-true, pick-false}
+use Rattle.rules.specs.Codes.{tpevSvcErr}
 use Rattle.monitor.proofs.returns.die_out.Statement.{statement}
 use Rattle.monitor.proofs.returns.die_out.Tie as tie
 
@@ -10,9 +11,9 @@ module _ (m : Monitor) (p d : ℕ) (e : d ≡ party m p .served) where
   unfolding diedOut
   idle h = sym (pick-true _ _ _ (eq-eqb _ _ (sym e ∙ h)))
 
-  serving : (d ≡ 0 → ⊥) → leave m p d 2 0 ≡ diedOut m p
+  serving : (d ≡ 0 → ⊥) → leave m p d tpevSvcErr 0 ≡ diedOut m p
   unfolding diedOut
-  serving h = ap (λ (n : ℕ). leave m p n 2 0) e ∙ sym (pick-false _ _ _ (ne-eqb _ _ (λ z. h (e ∙ z))))
+  serving h = ap (λ (n : ℕ). leave m p n tpevSvcErr 0) e ∙ sym (pick-false _ _ _ (ne-eqb _ _ (λ z. h (e ∙ z))))
 
 served-at-requires : tie.Need-served-at-requires
 served-at-requires c κs = search needs

@@ -1,6 +1,7 @@
 -- `returns::outcome_of` meets its contract: an outcome for each early return.
 -- Assumes nothing.
 use Rattle.monitor.proofs.Usual.{ℕ, _≡_, ap, ap₂, sym, _∙_, Bool, true, false, not, _&&_, _||_, needs, eq-eqb, ne-eqb, eqb, Link, Monitor, pick, anyOf, isServerFree, party, live, ownEnd, plainOutcome, outcomeOf, pick-true, pick-false}
+use Rattle.rules.specs.Codes.{tpevSvcErr, tpevSvcFail, tpFail}
 use Rattle.monitor.proofs.returns.outcome_of.Statement.{statement}
 use Rattle.monitor.proofs.returns.outcome_of.Tie as tie
 
@@ -9,7 +10,7 @@ module _ (m : Monitor) (p a c : ℕ) (l : Link) (ends : Bool) (owned : ℕ) (e :
   asked : (b : Bool) → ends || not (eqb owned 0) ≡ b → anyOf (ownEnd p) (live m) || not (eqb (party m p .owned) 0) ≡ b
   asked b t = ap₂ (λ (x : Bool) (n : ℕ). x || not (eqb n 0)) (sym e) (sym f) ∙ t
 
-  unsettled : ends || not (eqb owned 0) ≡ true → outcomeOf m p a c l ≡ 2
+  unsettled : ends || not (eqb owned 0) ≡ true → outcomeOf m p a c l ≡ tpevSvcErr
   unfolding outcomeOf
   unsettled t = pick-true _ _ _ (asked true t)
 
@@ -18,11 +19,11 @@ module _ (m : Monitor) (p a c : ℕ) (l : Link) (ends : Bool) (owned : ℕ) (e :
     unfolding outcomeOf
     of-request k = pick-false _ _ _ (asked false t) ∙ pick-false _ _ _ (ne-eqb _ _ k)
 
-    of-disconnected : l .kind ≡ 1 → (l .disconnected ≡ 0 → ⊥) → outcomeOf m p a c l ≡ 2
+    of-disconnected : l .kind ≡ 1 → (l .disconnected ≡ 0 → ⊥) → outcomeOf m p a c l ≡ tpevSvcErr
     unfolding outcomeOf
     of-disconnected k d = pick-false _ _ _ (asked false t) ∙ pick-true _ _ _ (eq-eqb _ _ k) ∙ pick-true _ _ _ (ap not (ne-eqb _ _ d))
 
-    by-sender : l .kind ≡ 1 → l .disconnected ≡ 0 → outcomeOf m p a c l ≡ pick (isServerFree l) (plainOutcome a) (pick (eqb a 2 && eqb c 0) 4 2)
+    by-sender : l .kind ≡ 1 → l .disconnected ≡ 0 → outcomeOf m p a c l ≡ pick (isServerFree l) (plainOutcome a) (pick (eqb a tpFail && eqb c 0) tpevSvcFail tpevSvcErr)
     unfolding outcomeOf
     by-sender k d = pick-false _ _ _ (asked false t) ∙ pick-true _ _ _ (eq-eqb _ _ k) ∙ pick-false _ _ _ (ap not (eq-eqb _ _ d))
 

@@ -1,10 +1,11 @@
 -- `returns::tpreturn` meets its contract.
 -- Assumes nothing.
 use Rattle.monitor.proofs.Usual.{ℕ, _≡_, ap, sym, _∙_, true, not, _||_, needs, eq-eqb, ne-eqb, not-true, not-false, eqb, Link, Monitor, Ruled, party, linkOf, outcomeOf, returnWith, returnOf, Told, view, ruledBy, pick-true, pick-false, live-of}
+use Rattle.rules.specs.Codes.{tpSuccess, tpFail}
 use Rattle.monitor.proofs.returns.tpreturn.Statement.{statement}
 use Rattle.monitor.proofs.returns.tpreturn.Tie as tie
 
-returns-well : (m : Monitor) (p a c : ℕ) (l : Link) (o : ℕ) (r : Ruled) → (party m p .served ≡ 0 → ⊥) → eqb a 1 || eqb a 2 ≡ true → l ≡ linkOf m (party m p .served) → o ≡ outcomeOf m p a c l → r ≡ returnWith m p o c → r ≡ returnOf m p a c
+returns-well : (m : Monitor) (p a c : ℕ) (l : Link) (o : ℕ) (r : Ruled) → (party m p .served ≡ 0 → ⊥) → eqb a tpSuccess || eqb a tpFail ≡ true → l ≡ linkOf m (party m p .served) → o ≡ outcomeOf m p a c l → r ≡ returnWith m p o c → r ≡ returnOf m p a c
 unfolding returnOf
 returns-well m p a c l o r s g e f h =
     h

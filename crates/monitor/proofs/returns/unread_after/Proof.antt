@@ -1,6 +1,7 @@
 -- `returns::unread_after` equals `unreadAfter`.
 -- Assumes nothing.
 use Rattle.monitor.proofs.Usual.{ap, sym, _∙_, Bool, not, _||_, needs, eqb, unreadAfter, pick-true, pick-false}
+use Rattle.rules.specs.Codes.{tpevSvcErr}
 use Rattle.monitor.proofs.returns.unread_after.Statement.{statement}
 use Rattle.monitor.proofs.returns.unread_after.Tie as tie
 
@@ -14,13 +15,13 @@ returns : tie.Need-returns
 unfolding unreadAfter
 returns c =
     let o = c .before .before .before .args .o in
-    c .drop-unread .ensures ∙ sym (pick-true _ _ _ (ap (λ (b : Bool). eqb o 2 || not b) (sym (c .before .before .is-server-free .ensures)) ∙ c .before .if1 .taken))
+    c .drop-unread .ensures ∙ sym (pick-true _ _ _ (ap (λ (b : Bool). eqb o tpevSvcErr || not b) (sym (c .before .before .is-server-free .ensures)) ∙ c .before .if1 .taken))
 
 returns-2 : tie.Need-returns-2
 unfolding unreadAfter
 returns-2 c =
     let o = c .before .before .args .o in
-    sym (pick-false _ _ _ (ap (λ (b : Bool). eqb o 2 || not b) (sym (c .before .is-server-free .ensures)) ∙ c .if1 .left))
+    sym (pick-false _ _ _ (ap (λ (b : Bool). eqb o tpevSvcErr || not b) (sym (c .before .is-server-free .ensures)) ∙ c .if1 .left))
 
 pub unread-after-spec : {M : Type 1} → statement M
 unread-after-spec =
