@@ -9,6 +9,15 @@ use super::stored::unsound;
 use monitor::FileRan;
 use monitor::Store;
 
+// Did any word of the record change?
+pub fn show_record(before: Store, after: Store) {
+    if same(before, after) {
+        text(b", record kept");
+    } else {
+        text(b", record changed");
+    }
+}
+
 fn show_ran(before: Store, ran: FileRan, answers: &[i64]) {
     text(b"code ");
     signed(ran.code);
@@ -17,12 +26,8 @@ fn show_ran(before: Store, ran: FileRan, answers: &[i64]) {
     text(b", used ");
     number(ran.used as u64);
     let after = ran.store;
-    let kept = same(before, after);
-    if kept {
-        text(b", record kept\n");
-    } else {
-        text(b", record changed\n");
-    }
+    show_record(before, after);
+    text(b"\n");
     places(answers);
 }
 

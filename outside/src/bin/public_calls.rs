@@ -1,7 +1,7 @@
 //! public_calls DATA: the listing that the program crates/public_calls must write, from the drill files in the folder DATA.
 //!
-//! Every public call of the proved monitor that no other program runs, by this implementation's own: drill files and pieces of them run,
-//! calls read and written, lists on a fresh monitor, and which records are sound and equal.
+//! Every public call of the proved monitor and its listing that no other program runs, by this implementation's own: drill files and pieces of
+//! them run, turns of the drill program, calls read and written, lists on a fresh monitor, and which records are sound and equal.
 
 use outside::drill::{self, Next};
 use outside::monitor::{equal, run_list, Monitor};
@@ -71,6 +71,48 @@ fn refused(code: i64) -> Ran {
     }
 }
 
+/// What a turn of the drill program tells: how many bytes are kept at the front of the input's buffer, how many of text there are, and whether
+/// the file is over.
+struct Turned {
+    kept: usize,
+    written: usize,
+    over: bool,
+}
+
+/// A turn: the first `count` bytes as a piece, its answers as lines, and what it leaves moved to the front. Where the text's buffer has less
+/// room than the longest lines take, nothing is run (16), and there is no text.
+fn list_turn(
+    m: &mut Monitor,
+    input: &mut [u8],
+    count: usize,
+    ended: bool,
+    answers: &mut [i64],
+    out: &mut [u8],
+) -> Turned {
+    let held = count.min(input.len());
+    let mut lines = Vec::new();
+    let ran = if out.len() < answers.len() / 6 * 132 + 22 {
+        refused(16)
+    } else {
+        let ran = run_piece(m, &input[..held], ended, answers);
+        for answer in answers.chunks_exact(6).take(ran.calls) {
+            drill::push_answer(answer.try_into().expect("six fields"), &mut lines);
+        }
+        if ran.code != 0 {
+            lines.extend(format!("{}\n", ran.code).bytes());
+        }
+        ran
+    };
+    out[..lines.len()].copy_from_slice(&lines);
+    input.copy_within(ran.used..held, 0);
+    let kept = held - ran.used;
+    Turned {
+        kept,
+        written: lines.len(),
+        over: ran.code != 0 || ended && kept == 0,
+    }
+}
+
 /// A list written at a place: 17 where it ends inside a call, 16 where there is too little room.
 fn write_calls(buffer: &mut [u8], place: usize, list: &[u32]) -> Result<usize, i64> {
     if !list.len().is_multiple_of(6) {
@@ -100,12 +142,24 @@ fn show_places(answers: &[i64]) {
     }
 }
 
+/// Did any word of the record change?
+fn changes(before: &Monitor, after: &Monitor) -> &'static str {
+    if record(before) == record(after) {
+        "kept"
+    } else {
+        "changed"
+    }
+}
+
 fn show_ran(before: &Monitor, after: &Monitor, ran: &Ran, answers: &[i64]) {
-    let kept = record(before) == record(after);
     let Ran { code, calls, used } = ran;
-    let kept = if kept { "kept" } else { "changed" };
-    println!("code {code}, calls {calls}, used {used}, record {kept}");
+    let record = changes(before, after);
+    println!("code {code}, calls {calls}, used {used}, record {record}");
     show_places(answers);
+}
+
+fn hex(bytes: &[u8]) -> String {
+    bytes.iter().map(|b| format!(" {b:02x}")).collect()
 }
 
 fn show_file(m: &Monitor, name: &str, input: &[u8], places: usize) {
@@ -196,6 +250,108 @@ fn pieces(data: &Data) {
     show_piece(&unsound(), "case-43", &data.file("case-43"), true, 0);
 }
 
+/// A turn with so many answer places and room for so much text; what it told, and its text.
+fn show_turn(
+    m: &mut Monitor,
+    name: &str,
+    input: &mut [u8],
+    count: usize,
+    ended: bool,
+    places: usize,
+    room: usize,
+) -> (Turned, Vec<u8>) {
+    let (size, goes) = (input.len(), if ended { "ends" } else { "goes on" });
+    print!("list_turn {name}, {count} bytes of {size}, {goes}, {places} places, room {room}: ");
+    let mut answers = vec![PLACE; places];
+    let mut out = vec![BYTE; room];
+    let before = m.clone();
+    let turned = list_turn(m, input, count, ended, &mut answers, &mut out);
+    let (text, rest) = out.split_at(turned.written);
+    println!(
+        "kept {}, written {}, over {}, record {}, past the text kept {}",
+        turned.kept,
+        turned.written,
+        yes(turned.over),
+        changes(&before, m),
+        yes(rest.iter().all(|&b| b == BYTE))
+    );
+    print!("{}", String::from_utf8_lossy(text));
+    println!("input{}", hex(input));
+    show_places(&answers);
+    (turned, text.to_vec())
+}
+
+/// A turn on a stored file at the front of a buffer of so many bytes.
+fn show_once(
+    m: &Monitor,
+    data: &Data,
+    (name, size, count, ended, places, room): (&str, usize, usize, bool, usize, usize),
+) {
+    let mut input = data.file(name);
+    input.resize(size, BYTE);
+    show_turn(&mut m.clone(), name, &mut input, count, ended, places, room);
+}
+
+/// A file read in two chunks, the second behind what the first turn leaves, and turns until it is over: their texts are what the drill program
+/// of this implementation prints.
+fn read_in_two(file: &[u8], cut: usize, places: usize, room: usize) {
+    let mut m = Monitor::fresh();
+    let mut input = [BYTE; 32];
+    input[..cut].copy_from_slice(&file[..cut]);
+    let (first, mut text) = show_turn(&mut m, "case-06", &mut input, cut, false, places, room);
+    let mut count = first.kept + file.len() - cut;
+    input[first.kept..count].copy_from_slice(&file[cut..]);
+    loop {
+        let (turned, more) = show_turn(&mut m, "case-06", &mut input, count, true, places, room);
+        text.extend(more);
+        count = turned.kept;
+        if turned.over {
+            break;
+        }
+    }
+    let mut whole = Vec::new();
+    drill::run(file, &mut whole).expect("a file in memory");
+    assert_eq!(text, whole);
+}
+
+fn turns(data: &Data) {
+    let fresh = Monitor::fresh();
+    for case in [
+        ("case-00", 25, 25, false, 24, 550),
+        ("case-00", 28, 25, true, 27, 550),
+        ("case-06", 30, 20, false, 12, 286),
+        ("case-06", 30, 20, true, 12, 286),
+        ("case-06", 20, 27, false, 12, 286),
+        ("case-06", 27, usize::MAX, true, 12, 286),
+        ("case-06", 27, 27, true, 6, 154),
+        ("case-06", 27, 27, true, 5, 22),
+        ("case-06", 27, 27, false, 12, 285),
+        ("case-06", 27, 27, true, 0, 21),
+        ("case-35", 16, 11, false, 12, 286),
+        ("case-43", 16, 7, false, 12, 286),
+        ("case-48", 16, 14, false, 12, 286),
+        ("case-48", 16, 14, true, 5, 22),
+        ("case-01", 4, 0, false, 6, 154),
+        ("case-01", 4, 0, true, 6, 154),
+        ("case-01", 0, 1, true, 6, 154),
+    ] {
+        show_once(&fresh, data, case);
+    }
+    let two = data.file("case-06");
+    for cut in 0..=two.len() {
+        read_in_two(&two, cut, 12, 286);
+    }
+    read_in_two(&two, 20, 6, 154);
+    println!("last transaction number 60001");
+    for case in [
+        ("case-00", 25, 25, false, 24, 550),
+        ("case-01", 4, 0, true, 6, 154),
+        ("case-00", 25, 25, false, 24, 549),
+    ] {
+        show_once(&unsound(), data, case);
+    }
+}
+
 /// What stands at a place; the place after it, where it is a call.
 fn show_read(name: &str, bytes: &[u8], place: usize) -> usize {
     print!("read_call {name} at {place}: ");
@@ -240,8 +396,7 @@ fn show_write(list: &[u32], place: usize, room: usize) {
         Ok(next) => print!("next {next}"),
         Err(refusal) => print!("{refusal}"),
     }
-    let bytes: String = buffer.iter().map(|b| format!(" {b:02x}")).collect();
-    println!(",{bytes}");
+    println!(",{}", hex(&buffer));
     let next = show_read("there", &buffer, place);
     show_read("there", &buffer, next);
 }
@@ -375,6 +530,7 @@ fn main() {
     );
     files(&data);
     pieces(&data);
+    turns(&data);
     reads(&data);
     writes(&data);
     let mut base = Monitor::fresh();
