@@ -121,17 +121,59 @@ puts-then {l} {m} {n} {t} {u} {i} {j} {k} p q =
 
 -- ---- lines
 
--- the six fields from a place of the answers on
-pub line-at : (answers : List ℤ) (from : ℕ)
-    → field (getD answers from (pos 0)) 32
-    ++ field (getD answers (from + 1) (pos 0)) 32
-    ++ field (getD answers (from + 2) (pos 0)) 32
-    ++ field (getD answers (from + 3) (pos 0)) 32
-    ++ field (getD answers (from + 4) (pos 0)) 32
-    ++ field (getD answers (from + 5) (pos 0)) 10
-    ≡ lineOf (drop from answers)
-unfolding lineOf
+-- the fields from a place of the answers on, up to so many places further, each with a space behind it
+unfoldable pub fieldsOf : List ℤ → ℕ → ℕ → List ℕ
+fieldsOf answers from zero = field (getD answers from (pos 0)) 32
+fieldsOf answers from (suc last) = fieldsOf answers from last ++ field (getD answers (from + suc last) (pos 0)) 32
+
+line-at : (answers : List ℤ) (from : ℕ) → fieldsOf answers from 4 ++ field (getD answers (from + 5) (pos 0)) 10 ≡ lineOf (drop from answers)
+unfolding fieldsOf lineOf
 line-at answers from = simp (getD-drop, add-zero)
+
+-- The fields up to `last` have been put into the list, up to `at`: with room for a line, and answers for it.
+pub record Fields (before : List ℕ) (start : ℕ) (answers : List ℤ) (from last : ℕ) (after : List ℕ) (at : ℕ) : Type 0 where
+  pub room : start + 132 ≤ length before
+  pub places : from + 6 ≤ length answers
+  pub short : at ≤ start + (last + 1) * 22
+  pub long : length after ≡ length before
+  pub puts : Puts before start (fieldsOf answers from last) after at
+
+module _ {before : List ℕ} {start : ℕ} {answers : List ℤ} {from : ℕ} {after : List ℕ} {at : ℕ} where
+  pub fields-first : start + 132 ≤ length before → from + 6 ≤ length answers → Puts before start (field (getD answers from (pos 0)) 32) after at
+      → length after ≡ length before → Fields before start answers from 0 after at
+  unfolding fieldsOf
+  fields-first room places p same =
+      record {
+        room = room;
+        places = places;
+        short = omega (arith, p .ends, field-short (getD answers from (pos 0)) 32);
+        long = same;
+        puts = p;
+      }
+
+  module _ {last : ℕ} (f : Fields before start answers from last after at) where
+    pub fields-more : {more : List ℕ} {to : ℕ} → Puts after at (field (getD answers (from + suc last) (pos 0)) 32) more to
+        → length more ≡ length after → Fields before start answers from (suc last) more to
+    unfolding fieldsOf
+    fields-more p same =
+        record {
+          room = f .room;
+          places = f .places;
+          short = omega (arith, f .short, p .ends, field-short (getD answers (from + suc last) (pos 0)) 32);
+          long = same ∙ f .long;
+          puts = puts-then (f .puts) p;
+        }
+
+    -- there is room for one more, and an answer
+    pub fields-room : last < 5 → (at + 22 ≤ length after) × (from + suc last < length answers)
+    fields-room few = (omega (arith, f .room, f .short, f .long), omega (arith, f .places))
+
+  pub fields-line : Fields before start answers from 4 after at → {more : List ℕ} {to : ℕ}
+      → Puts after at (field (getD answers (from + 5) (pos 0)) 10) more to → Puts before start (lineOf (drop from answers)) more to
+  fields-line f p =
+      let q = puts-then (f .puts) p in
+      let e = line-at answers from in
+      record { ends = q .ends ∙ ap (λ (t : List ℕ). start + length t) e; makes = q .makes ∙ ap (sets before start) e }
 
 pub line-short : (fields : List ℤ) → length (lineOf fields) ≤ 132
 unfolding lineOf

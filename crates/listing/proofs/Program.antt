@@ -53,7 +53,8 @@ both-end false ts ps e = e
 
 -- ---- one turn
 
-module _ (m : Monitor) (input : List ℕ) (count : ℕ) (ended : Bool) (answers : List ℤ) (out : List ℕ) (places : 6 ≤ length answers) (room : textRoom answers ≤ length out) where
+module _ (m : Monitor) (input : List ℕ) (count : ℕ) (ended : Bool) (answers : List ℤ) (out : List ℕ)
+    (places : 6 ≤ length answers) (room : textRoom answers ≤ length out) where
   bytes : List ℕ
   bytes = take count input
 
@@ -66,7 +67,8 @@ module _ (m : Monitor) (input : List ℕ) (count : ℕ) (ended : Bool) (answers 
   turn-gives : turnedOf m input count ended answers out ≡ given
   unfolding turnedOf listedOf given p bytes
   turn-gives =
-      ap (λ (s : Shown). leaving ended input s (drop (s .used) bytes)) (pick-true (leb (textRoom answers) (length out)) _ _ (le-leb (textRoom answers) (length out) room))
+      ap (λ (s : Shown). leaving ended input s (drop (s .used) bytes))
+      (pick-true (leb (textRoom answers) (length out)) _ _ (le-leb (textRoom answers) (length out) room))
 
   given-ready : Ready given
   unfolding given p bytes

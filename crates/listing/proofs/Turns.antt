@@ -75,21 +75,24 @@ module _ (m : Monitor) (input : List ℕ) (count held : ℕ) (ended : Bool) (ans
       (ap (λ (n : ℕ). take n input) h ∙ take-min count input)
 
 -- the text is within its buffer
-pub turn-fits : (m : Monitor) (input : List ℕ) (count : ℕ) (ended : Bool) (answers : List ℤ) (out : List ℕ) (t : Turned) → t ≡ turnedOf m input count ended answers out
+pub turn-fits : (m : Monitor) (input : List ℕ) (count : ℕ) (ended : Bool) (answers : List ℤ) (out : List ℕ) (t : Turned)
+    → t ≡ turnedOf m input count ended answers out
     → t .written ≤ length out
 unfolding turnedOf
 turn-fits m input count ended answers out t e = subst (λ (x : Turned). x .written ≤ length out) (sym e) (listed-fits m (take count input) ended answers out)
 
 -- ---- what is kept
 
-module _ (m : Monitor) (input : List ℕ) (count : ℕ) (ended : Bool) (answers : List ℤ) (out : List ℕ) (places : 6 ≤ length answers) (large : 30 < length input) where
+module _ (m : Monitor) (input : List ℕ) (count : ℕ) (ended : Bool) (answers : List ℤ) (out : List ℕ)
+    (places : 6 ≤ length answers) (large : 30 < length input) where
   RoomLeft : Shown → Type 0
   RoomLeft s = isOver ended (s .code) (length (drop (s .used) (take count input))) ≡ false → length (drop (s .used) (take count input)) < length input
 
   listed-leaves-room : RoomLeft (listedOf m (take count input) ended answers out)
   unfolding RoomLeft listedOf isOver isRefused pick
   listed-leaves-room =
-      byTest RoomLeft {b = leb (textRoom answers) (length out)} {x = listing (pieceOf m (take count input) ended answers) out} {y = shown m 0 0 tooLittleRoom answers out}
+      byTest RoomLeft {b = leb (textRoom answers) (length out)}
+      {x = listing (pieceOf m (take count input) ended answers) out} {y = shown m 0 0 tooLittleRoom answers out}
       (λ _ on.
       ⊎-elim (λ k. omega (arith, length-take count input)) (λ k. omega (arith, k .1))
       (piece-moves m (take count input) ended answers places on))

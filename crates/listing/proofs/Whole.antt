@@ -66,7 +66,8 @@ unfolding isOver
 goes-on ended code left h = test (isRefused code) (λ r. not-both (pick-true (isRefused code) _ _ r) h) (λ r. r)
 
 module _ (ended : Bool) (bytes : List ℕ) (p : Passed) (long : length (saidBy p) ≡ p .calls * 6) (after : Monitor → List ℕ → List Passed)
-    (later : isRefused (p .code) ≡ false → textsOf (after (p .monitor) (leftBy p bytes)) ≡ textOf (together (p .monitor) (p .code) (after (p .monitor) (leftBy p bytes)))) where
+    (later : isRefused (p .code) ≡ false
+    → textsOf (after (p .monitor) (leftBy p bytes)) ≡ textOf (together (p .monitor) (p .code) (after (p .monitor) (leftBy p bytes)))) where
   -- the refusal's line of a turn, and the text of those after it
   Continues : List Passed → Type 0
   Continues ps = refusalLine (p .code) ++ textsOf ps ≡ textOf (together (p .monitor) (p .code) ps)

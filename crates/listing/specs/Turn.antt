@@ -1,4 +1,5 @@
--- A turn of the drill program: a piece run and listed, what it leaves moved to the front of the input's buffer, and whether the file is over. Then turn after turn.
+-- A turn of the drill program: a piece run and listed, what it leaves moved to the front of the input's buffer, and whether the file is over. Then turn
+-- after turn.
 -- Assumes nothing.
 use Prim.Native.Nat.{ℕ, zero, suc, _+_}
 use mathlib.Core.Bool.{Bool, true, false}

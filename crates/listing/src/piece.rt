@@ -19,7 +19,8 @@ pub struct Listed {
 
 // Runs the whole calls of a piece, as many as there are answer places for, and lists their answers; `last` says that the file ends with the piece.
 pub fn list_piece(m: Store, input: &[u8], last: bool, answers: &mut [i64], out: &mut [u8]) -> Listed
-    ensures { λ r. ⌜ shown (view (r .store .words)) (r .used) (r .written) (r .code) (now (answers .exit)) (now (out .exit)) ≡ listedOf (view (m .words)) (now (input .entry)) last (now (answers .entry)) (now (out .entry)) ⌝ }
+    ensures { λ r. ⌜ shown (view (r .store .words)) (r .used) (r .written) (r .code) (now (answers .exit)) (now (out .exit))
+        ≡ listedOf (view (m .words)) (now (input .entry)) last (now (answers .entry)) (now (out .entry)) ⌝ }
 {
     let room = out.len();
     let most = answers.len() / 6;

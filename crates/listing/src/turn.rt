@@ -68,7 +68,8 @@ pub fn list_turn(
     answers: &mut [i64],
     out: &mut [u8],
 ) -> Turned
-    ensures { λ r. ⌜ turned (view (r .store .words)) (r .kept) (r .written) (r .over) (now (input .exit)) (now (answers .exit)) (now (out .exit)) ≡ turnedOf (view (m .words)) (now (input .entry)) count ended (now (answers .entry)) (now (out .entry)) ⌝ }
+    ensures { λ r. ⌜ turned (view (r .store .words)) (r .kept) (r .written) (r .over) (now (input .exit)) (now (answers .exit)) (now (out .exit))
+        ≡ turnedOf (view (m .words)) (now (input .entry)) count ended (now (answers .entry)) (now (out .entry)) ⌝ }
 {
     let held = least(count, input.len());
     let listed = list_piece(m, &input[..held], ended, &mut *answers, &mut *out);

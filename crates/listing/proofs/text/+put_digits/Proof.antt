@@ -1,16 +1,14 @@
 -- `listing::text::put_digits` meets its contract.
 -- Assumes nothing.
-use Prim.Native.Nat.{ℕ, _+_, _<_}
+use Prim.Native.Nat.{ℕ, _+_, _/_, _%_, _<_}
 use mathlib.Core.Path.{ap, sym, _∙_}
 use mathlib.Core.List.{List}
 use native.Mathlib.Omega.{arith}
 use borrow.Author.Needs.{needs}
-use lib.ListN.{length, set}
+use lib.ListN.{length, set, length-set, length-append}
 use borrow.Fn.Kinds.{In}
 use borrow.Fn.PlainCycle.{Measures, is, falls, and}
 use lib.Seq.{sets}
-use lib.ListN.{length-set, length-append}
-use Prim.Native.Nat.{_/_, _%_}
 use Rattle.listing.specs.Text.{decimal}
 use Rattle.monitor.proofs.Writes.{sets-after}
 use Rattle.listing.proofs.Digits.{decimal-last, decimal-more}
@@ -81,10 +79,11 @@ put-digits-put-digits-requires : (t : ℕ) → put-digits-lts.Need-put-digits-re
   put-digits.Post,
 ) (put-digits-at t) put-digits.Post
 put-digits-put-digits-requires t c κs =
-    let a = c .before .before .before .args in
-    let h = c .before .if1 .left in
-    let e = ap length (decimal-more (a .n) h (c .before .before .before .fits .n .fits)) ∙ length-append (decimal (a .n / 10)) _ in
-    (omega (arith, c .before .before .before .pre .0), omega (arith, c .before .before .before .pre .1))
+    let start = c .before .before .before in
+    let a = start .args in
+    let more = decimal-more (a .n) (c .before .if1 .left) (start .fits .n .fits) in
+    let e = ap length more ∙ length-append (decimal (a .n / 10)) _ in
+    (omega (arith, start .pre .0), omega (arith, start .pre .1))
 
 put-digits-add-out-2 : (t : ℕ) → put-digits-lts.Need-add-out-2 (
   put-digits-below t,
@@ -103,22 +102,28 @@ put-digits-slice-write-out-2 : (t : ℕ) → put-digits-lts.Need-slice-write-out
   put-digits.Post,
 ) (put-digits-at t) put-digits.Post
 put-digits-slice-write-out-2 t c =
-    let a = c .before .before .before .before .before .before .args in
-    let e = decimal-more (a .n) (c .before .before .before .before .if1 .left) (c .before .before .before .before .before .before .fits .n .fits) in
+    let put = c .before .before in
+    let tested = put .before .before in
+    let start = tested .before .before in
+    let a = start .args in
+    let e = decimal-more (a .n) (tested .if1 .left) (start .fits .n .fits) in
     let l = ap length e ∙ length-append (decimal (a .n / 10)) _ in
-    let r = c .before .before .put-digits .ensures in
-    omega (arith, c .before .before .before .before .before .before .pre .1, c .before .before .put-digits .kept .0)
+    let r = put .put-digits .ensures in
+    omega (arith, start .pre .1, put .put-digits .kept .0)
 
 put-digits-add-result-2 : (t : ℕ) → put-digits-lts.Need-add-result-2 (
   put-digits-below t,
   put-digits.Post,
 ) (put-digits-at t) put-digits.Post
 put-digits-add-result-2 t c =
-    let a = c .before .before .before .before .before .before .args in
-    let e = decimal-more (a .n) (c .before .before .before .before .if1 .left) (c .before .before .before .before .before .before .fits .n .fits) in
+    let put = c .before .before in
+    let tested = put .before .before in
+    let start = tested .before .before in
+    let a = start .args in
+    let e = decimal-more (a .n) (tested .if1 .left) (start .fits .n .fits) in
     let l = ap length e ∙ length-append (decimal (a .n / 10)) _ in
-    let r = c .before .before .put-digits .ensures in
-    omega (arith, c .before .before .before .before .before .before .pre .1)
+    let r = put .put-digits .ensures in
+    omega (arith, start .pre .1)
 
 put-digits-same-length-2 : (t : ℕ) → put-digits-lts.Need-same-length-2 (
   put-digits-below t,
@@ -131,12 +136,15 @@ put-digits-returns-2 : (t : ℕ) → put-digits-lts.Need-returns-2 (
   put-digits.Post,
 ) (put-digits-at t) put-digits.Post
 put-digits-returns-2 t c =
-    let a = c .before .before .before .before .before .before .args in
-    let e = decimal-more (a .n) (c .before .before .before .before .if1 .left) (c .before .before .before .before .before .before .fits .n .fits) in
+    let put = c .before .before in
+    let tested = put .before .before in
+    let start = tested .before .before in
+    let a = start .args in
+    let e = decimal-more (a .n) (tested .if1 .left) (start .fits .n .fits) in
     let l = ap length e ∙ length-append (decimal (a .n / 10)) _ in
-    let r = c .before .before .put-digits .ensures in (
+    let r = put .put-digits .ensures in (
       omega (arith, r .0),
-      ap (λ (m : List ℕ). set m (c .before .before .put-digits .result) (48 + a .n % 10)) (r .1)
+      ap (λ (m : List ℕ). set m (put .put-digits .result) (48 + a .n % 10)) (r .1)
           ∙ sets-after (a .out .now) (a .at) (decimal (a .n / 10)) _ _ (r .0)
           ∙ ap (sets (a .out .now) (a .at)) (sym e),
     )

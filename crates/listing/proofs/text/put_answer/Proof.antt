@@ -23,10 +23,11 @@ same-length c = search needs
 
 returns : tie.Need-returns
 returns c =
-    let a = c .before .before .before .before .before .before .args in
-    let r = c .before .before .put-field .ensures in
+    let put = c .before .before in
+    let lent = put .before .before in
+    let a = lent .before .before .args in
     let e : toZ w64 (ofZ w64 (getD (a .answers .now) (a .place) (pos 0))) ≡ getD (a .answers .now) (a .place) (pos 0) = search needs in
-    rw (← e) r
+    rw (← e) (put .put-field .ensures)
 
 pub put-answer-spec : {M : Type 1} → statement M
 put-answer-spec =

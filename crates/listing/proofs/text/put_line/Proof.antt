@@ -1,17 +1,54 @@
 -- `listing::text::put_line` meets its contract.
 -- Assumes nothing.
-use Prim.Native.Nat.{ℕ, _+_}
-use mathlib.Core.Path.{ap, _∙_}
+use Prim.Native.Nat.{ℕ}
+use mathlib.Core.Path.{_∙_}
 use mathlib.Core.List.{List}
 use native.Mathlib.Omega.{arith}
 use borrow.Author.Needs.{needs}
-use lib.ListN.{length, getD}
-use lib.IntN.{pos}
-use lib.Seq.{sets}
-use Rattle.listing.specs.Text.{field}
-use Rattle.listing.proofs.Digits.{Puts, puts-then, field-short, line-at}
+use Rattle.listing.proofs.Digits.{Fields, fields-first, fields-more, fields-room, fields-line}
 use Rattle.listing.proofs.text.put_line.Statement.{statement}
 use Rattle.listing.proofs.text.put_line.Tie as tie
+
+-- the place after each field, from the place after the next
+abbrev first : tie.After-put-answer2 → tie.After-put-answer
+first c = let lent = c .before .before .before in lent .before
+
+abbrev second : tie.After-put-answer3 → tie.After-put-answer2
+second c = let lent = c .before .before .before in lent .before
+
+abbrev third : tie.After-put-answer4 → tie.After-put-answer3
+third c = let lent = c .before .before .before in lent .before
+
+abbrev fourth : tie.After-put-answer5 → tie.After-put-answer4
+fourth c = let lent = c .before .before .before in lent .before
+
+abbrev fifth : tie.After-put-answer6 → tie.After-put-answer5
+fifth c = let lent = c .before .before .before in lent .before
+
+-- where the line starts
+abbrev start : tie.After-put-answer → tie.Start
+start c = c .before .before .before
+
+-- the fields that have been put since
+abbrev Put : tie.Start → ℕ → List ℕ → ℕ → Type 0
+Put s = Fields (s .args .out .now) (s .args .at) (s .args .answers .now) (s .args .from)
+
+first-put : (c : tie.After-put-answer) → Put (start c) 0 (c .put-answer .last .0) (c .put-answer .result)
+first-put c =
+    let s = start c in
+    fields-first (s .pre .0) (s .pre .1) (record { ends = c .put-answer .ensures .0; makes = c .put-answer .ensures .1 }) (c .put-answer .kept .0)
+
+second-put : (c : tie.After-put-answer2) → Put (start (first c)) 1 (c .put-answer2 .last .0) (c .put-answer2 .result)
+second-put c = fields-more (first-put (first c)) (record { ends = c .put-answer2 .ensures .0; makes = c .put-answer2 .ensures .1 }) (c .put-answer2 .kept .0)
+
+third-put : (c : tie.After-put-answer3) → Put (start (first (second c))) 2 (c .put-answer3 .last .0) (c .put-answer3 .result)
+third-put c = fields-more (second-put (second c)) (record { ends = c .put-answer3 .ensures .0; makes = c .put-answer3 .ensures .1 }) (c .put-answer3 .kept .0)
+
+fourth-put : (c : tie.After-put-answer4) → Put (start (first (second (third c)))) 3 (c .put-answer4 .last .0) (c .put-answer4 .result)
+fourth-put c = fields-more (third-put (third c)) (record { ends = c .put-answer4 .ensures .0; makes = c .put-answer4 .ensures .1 }) (c .put-answer4 .kept .0)
+
+fifth-put : (c : tie.After-put-answer5) → Put (start (first (second (third (fourth c))))) 4 (c .put-answer5 .last .0) (c .put-answer5 .result)
+fifth-put c = fields-more (fourth-put (fourth c)) (record { ends = c .put-answer5 .ensures .0; makes = c .put-answer5 .ensures .1 }) (c .put-answer5 .kept .0)
 
 put-answer-requires : tie.Need-put-answer-requires
 put-answer-requires c κs = search needs
@@ -20,57 +57,42 @@ add-put-answer : tie.Need-add-put-answer
 add-put-answer c = search needs
 
 put-answer-requires-2 : tie.Need-put-answer-requires-2
-put-answer-requires-2 c κs =
-    let a = c .before .before .before .before .before .before .args in
-    (omega (arith, c .before .before .before .before .before .before .pre .0, c .before .before .before .put-answer .ensures .0, c .before .before .before .put-answer .kept .0, field-short (getD (a .answers .now) (a .from) (pos 0)) 32), omega (arith, c .before .before .before .before .before .before .pre .1))
+put-answer-requires-2 c κs = fields-room (first-put (c .before .before .before)) (omega arith)
 
 add-put-answer-2 : tie.Need-add-put-answer-2
 add-put-answer-2 c = search needs
 
 put-answer-requires-3 : tie.Need-put-answer-requires-3
-put-answer-requires-3 c κs =
-    let a = c .before .before .before .before .before .before .before .before .before .before .args in
-    (omega (arith, c .before .before .before .before .before .before .before .before .before .before .pre .0, c .before .before .before .before .before .before .before .put-answer .ensures .0, c .before .before .before .before .before .before .before .put-answer .kept .0, field-short (getD (a .answers .now) (a .from) (pos 0)) 32, c .before .before .before .put-answer2 .ensures .0, c .before .before .before .put-answer2 .kept .0, field-short (getD (a .answers .now) (a .from + 1) (pos 0)) 32), omega (arith, c .before .before .before .before .before .before .before .before .before .before .pre .1))
+put-answer-requires-3 c κs = fields-room (second-put (c .before .before .before)) (omega arith)
 
 add-put-answer-3 : tie.Need-add-put-answer-3
 add-put-answer-3 c = search needs
 
 put-answer-requires-4 : tie.Need-put-answer-requires-4
-put-answer-requires-4 c κs =
-    let a = c .before .before .before .before .before .before .before .before .before .before .before .before .before .before .args in
-    (omega (arith, c .before .before .before .before .before .before .before .before .before .before .before .before .before .before .pre .0, c .before .before .before .before .before .before .before .before .before .before .before .put-answer .ensures .0, c .before .before .before .before .before .before .before .before .before .before .before .put-answer .kept .0, field-short (getD (a .answers .now) (a .from) (pos 0)) 32, c .before .before .before .before .before .before .before .put-answer2 .ensures .0, c .before .before .before .before .before .before .before .put-answer2 .kept .0, field-short (getD (a .answers .now) (a .from + 1) (pos 0)) 32, c .before .before .before .put-answer3 .ensures .0, c .before .before .before .put-answer3 .kept .0, field-short (getD (a .answers .now) (a .from + 2) (pos 0)) 32), omega (arith, c .before .before .before .before .before .before .before .before .before .before .before .before .before .before .pre .1))
+put-answer-requires-4 c κs = fields-room (third-put (c .before .before .before)) (omega arith)
 
 add-put-answer-4 : tie.Need-add-put-answer-4
 add-put-answer-4 c = search needs
 
 put-answer-requires-5 : tie.Need-put-answer-requires-5
-put-answer-requires-5 c κs =
-    let a = c .before .before .before .before .before .before .before .before .before .before .before .before .before .before .before .before .before .before .args in
-    (omega (arith, c .before .before .before .before .before .before .before .before .before .before .before .before .before .before .before .before .before .before .pre .0, c .before .before .before .before .before .before .before .before .before .before .before .before .before .before .before .put-answer .ensures .0, c .before .before .before .before .before .before .before .before .before .before .before .before .before .before .before .put-answer .kept .0, field-short (getD (a .answers .now) (a .from) (pos 0)) 32, c .before .before .before .before .before .before .before .before .before .before .before .put-answer2 .ensures .0, c .before .before .before .before .before .before .before .before .before .before .before .put-answer2 .kept .0, field-short (getD (a .answers .now) (a .from + 1) (pos 0)) 32, c .before .before .before .before .before .before .before .put-answer3 .ensures .0, c .before .before .before .before .before .before .before .put-answer3 .kept .0, field-short (getD (a .answers .now) (a .from + 2) (pos 0)) 32, c .before .before .before .put-answer4 .ensures .0, c .before .before .before .put-answer4 .kept .0, field-short (getD (a .answers .now) (a .from + 3) (pos 0)) 32), omega (arith, c .before .before .before .before .before .before .before .before .before .before .before .before .before .before .before .before .before .before .pre .1))
+put-answer-requires-5 c κs = fields-room (fourth-put (c .before .before .before)) (omega arith)
 
 add-put-answer-5 : tie.Need-add-put-answer-5
 add-put-answer-5 c = search needs
 
 put-answer-requires-6 : tie.Need-put-answer-requires-6
-put-answer-requires-6 c κs =
-    let a = c .before .before .before .before .before .before .before .before .before .before .before .before .before .before .before .before .before .before .before .before .before .before .args in
-    (omega (arith, c .before .before .before .before .before .before .before .before .before .before .before .before .before .before .before .before .before .before .before .before .before .before .pre .0, c .before .before .before .before .before .before .before .before .before .before .before .before .before .before .before .before .before .before .before .put-answer .ensures .0, c .before .before .before .before .before .before .before .before .before .before .before .before .before .before .before .before .before .before .before .put-answer .kept .0, field-short (getD (a .answers .now) (a .from) (pos 0)) 32, c .before .before .before .before .before .before .before .before .before .before .before .before .before .before .before .put-answer2 .ensures .0, c .before .before .before .before .before .before .before .before .before .before .before .before .before .before .before .put-answer2 .kept .0, field-short (getD (a .answers .now) (a .from + 1) (pos 0)) 32, c .before .before .before .before .before .before .before .before .before .before .before .put-answer3 .ensures .0, c .before .before .before .before .before .before .before .before .before .before .before .put-answer3 .kept .0, field-short (getD (a .answers .now) (a .from + 2) (pos 0)) 32, c .before .before .before .before .before .before .before .put-answer4 .ensures .0, c .before .before .before .before .before .before .before .put-answer4 .kept .0, field-short (getD (a .answers .now) (a .from + 3) (pos 0)) 32, c .before .before .before .put-answer5 .ensures .0, c .before .before .before .put-answer5 .kept .0, field-short (getD (a .answers .now) (a .from + 4) (pos 0)) 32), omega (arith, c .before .before .before .before .before .before .before .before .before .before .before .before .before .before .before .before .before .before .before .before .before .before .pre .1))
+put-answer-requires-6 c κs = fields-room (fifth-put (c .before .before .before)) (omega arith)
 
 same-length : tie.Need-same-length
-same-length c = c .before .before .put-answer6 .kept .0 ∙ c .before .before .before .before .before .before .put-answer5 .kept .0 ∙ c .before .before .before .before .before .before .before .before .before .before .put-answer4 .kept .0 ∙ c .before .before .before .before .before .before .before .before .before .before .before .before .before .before .put-answer3 .kept .0 ∙ c .before .before .before .before .before .before .before .before .before .before .before .before .before .before .before .before .before .before .put-answer2 .kept .0 ∙ c .before .before .before .before .before .before .before .before .before .before .before .before .before .before .before .before .before .before .before .before .before .before .put-answer .kept .0
+same-length c =
+    let last = c .before .before in
+    last .put-answer6 .kept .0 ∙ fifth-put (fifth last) .long
 
 returns : tie.Need-returns
 returns c =
-    let a = c .before .before .before .before .before .before .before .before .before .before .before .before .before .before .before .before .before .before .before .before .before .before .before .before .before .args in
-    let e = line-at (a .answers .now) (a .from) in
-    let p1 : Puts (a .out .now) (a .at) (field (getD (a .answers .now) (a .from) (pos 0)) 32) (c .before .before .before .before .before .before .before .before .before .before .before .before .before .before .before .before .before .before .before .before .before .before .put-answer .last .0) (c .before .before .before .before .before .before .before .before .before .before .before .before .before .before .before .before .before .before .before .before .before .before .put-answer .result) = record { ends = c .before .before .before .before .before .before .before .before .before .before .before .before .before .before .before .before .before .before .before .before .before .before .put-answer .ensures .0; makes = c .before .before .before .before .before .before .before .before .before .before .before .before .before .before .before .before .before .before .before .before .before .before .put-answer .ensures .1 } in
-    let p2 : Puts (c .before .before .before .before .before .before .before .before .before .before .before .before .before .before .before .before .before .before .before .before .before .before .put-answer .last .0) (c .before .before .before .before .before .before .before .before .before .before .before .before .before .before .before .before .before .before .before .before .before .before .put-answer .result) (field (getD (a .answers .now) (a .from + 1) (pos 0)) 32) (c .before .before .before .before .before .before .before .before .before .before .before .before .before .before .before .before .before .before .put-answer2 .last .0) (c .before .before .before .before .before .before .before .before .before .before .before .before .before .before .before .before .before .before .put-answer2 .result) = record { ends = c .before .before .before .before .before .before .before .before .before .before .before .before .before .before .before .before .before .before .put-answer2 .ensures .0; makes = c .before .before .before .before .before .before .before .before .before .before .before .before .before .before .before .before .before .before .put-answer2 .ensures .1 } in
-    let p3 : Puts (c .before .before .before .before .before .before .before .before .before .before .before .before .before .before .before .before .before .before .put-answer2 .last .0) (c .before .before .before .before .before .before .before .before .before .before .before .before .before .before .before .before .before .before .put-answer2 .result) (field (getD (a .answers .now) (a .from + 2) (pos 0)) 32) (c .before .before .before .before .before .before .before .before .before .before .before .before .before .before .put-answer3 .last .0) (c .before .before .before .before .before .before .before .before .before .before .before .before .before .before .put-answer3 .result) = record { ends = c .before .before .before .before .before .before .before .before .before .before .before .before .before .before .put-answer3 .ensures .0; makes = c .before .before .before .before .before .before .before .before .before .before .before .before .before .before .put-answer3 .ensures .1 } in
-    let p4 : Puts (c .before .before .before .before .before .before .before .before .before .before .before .before .before .before .put-answer3 .last .0) (c .before .before .before .before .before .before .before .before .before .before .before .before .before .before .put-answer3 .result) (field (getD (a .answers .now) (a .from + 3) (pos 0)) 32) (c .before .before .before .before .before .before .before .before .before .before .put-answer4 .last .0) (c .before .before .before .before .before .before .before .before .before .before .put-answer4 .result) = record { ends = c .before .before .before .before .before .before .before .before .before .before .put-answer4 .ensures .0; makes = c .before .before .before .before .before .before .before .before .before .before .put-answer4 .ensures .1 } in
-    let p5 : Puts (c .before .before .before .before .before .before .before .before .before .before .put-answer4 .last .0) (c .before .before .before .before .before .before .before .before .before .before .put-answer4 .result) (field (getD (a .answers .now) (a .from + 4) (pos 0)) 32) (c .before .before .before .before .before .before .put-answer5 .last .0) (c .before .before .before .before .before .before .put-answer5 .result) = record { ends = c .before .before .before .before .before .before .put-answer5 .ensures .0; makes = c .before .before .before .before .before .before .put-answer5 .ensures .1 } in
-    let p6 : Puts (c .before .before .before .before .before .before .put-answer5 .last .0) (c .before .before .before .before .before .before .put-answer5 .result) (field (getD (a .answers .now) (a .from + 5) (pos 0)) 10) (c .before .before .put-answer6 .last .0) (c .before .before .put-answer6 .result) = record { ends = c .before .before .put-answer6 .ensures .0; makes = c .before .before .put-answer6 .ensures .1 } in
-    let p = puts-then (puts-then (puts-then (puts-then (puts-then p1 p2) p3) p4) p5) p6 in
-    (p .ends ∙ ap (λ (t : List ℕ). a .at + length t) e, p .makes ∙ ap (sets (a .out .now) (a .at)) e)
+    let last = c .before .before in
+    let p = fields-line (fifth-put (fifth last)) (record { ends = last .put-answer6 .ensures .0; makes = last .put-answer6 .ensures .1 }) in
+    (p .ends, p .makes)
 
 pub put-line-spec : {M : Type 1} → statement M
 put-line-spec =

@@ -20,7 +20,12 @@ mul-put-line : tie.Need-mul-put-line Inv-loop μ-loop
 mul-put-line c = search needs
 
 put-line-requires : tie.Need-put-line-requires Inv-loop μ-loop
-put-line-requires c κs = let k = c .before .before .loop .inv in (omega (arith, k .short, k .long, c .before .before .before .before .pre .0, c .before .loop-test .taken), omega (arith, c .before .before .before .before .pre .1, c .before .loop-test .taken))
+put-line-requires c κs =
+    let below = c .before .loop-test .taken in
+    let turn = c .before .before in
+    let k = turn .loop .inv in
+    let start = turn .before .before in
+    (omega (arith, k .short, k .long, start .pre .0, below), omega (arith, start .pre .1, below))
 
 add-i : tie.Need-add-i Inv-loop μ-loop
 add-i c = search needs
@@ -29,7 +34,11 @@ loop-less : tie.Need-loop-less Inv-loop μ-loop
 loop-less c = search needs
 
 loop-again : tie.Need-loop-again Inv-loop μ-loop
-loop-again c = lists-one (c .before .before .before .before .before .loop .inv) (c .before .before .before .before .loop-test .taken) _ _ (c .before .before .put-line .kept .0) (record { ends = c .before .before .put-line .ensures .0; makes = c .before .before .put-line .ensures .1 })
+loop-again c =
+    let put = c .before .before in
+    let tested = put .before .before in
+    let line = put .put-line in
+    lists-one (tested .before .loop .inv) (tested .loop-test .taken) _ _ (line .kept .0) (record { ends = line .ensures .0; makes = line .ensures .1 })
 
 same-length : tie.Need-same-length Inv-loop μ-loop
 same-length c = c .before .loop .inv .long

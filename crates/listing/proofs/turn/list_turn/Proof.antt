@@ -16,6 +16,14 @@ use Rattle.listing.proofs.Turns.{turn-is}
 use Rattle.listing.proofs.turn.list_turn.Statement.{statement}
 use Rattle.listing.proofs.turn.list_turn.Tie as tie
 
+-- where the piece has been listed, from the place where what it told is known
+abbrev listing-of : tie.After-struct-told → tie.After-list-piece
+listing-of c = let given-back = c .before .before in given-back .before .before
+
+-- the code that it told is a number of 64 bits
+same-code : (c : tie.After-struct-told) → toZ w64 (ofZ w64 (listing-of c .list-piece .result .code)) ≡ listing-of c .list-piece .result .code
+same-code c = search needs
+
 least-requires : tie.Need-least-requires
 least-requires c κs = search needs
 
@@ -24,10 +32,10 @@ slice-reshare-prefix-list-piece c = search needs
 
 slice-aggregate-list-piece : tie.Need-slice-aggregate-list-piece
 slice-aggregate-list-piece c =
-    let l = c .before .least in
-    let a = c .before .before .before .before .args in
-    let h : l .result ≤ length (a .input .now) = omega (arith, l .ensures) in
-    sym (length-take-le (l .result) (a .input .now) h)
+    let held = c .before in
+    let a = held .before .before .before .args in
+    let h : held .least .result ≤ length (a .input .now) = omega (arith, held .least .ensures) in
+    sym (length-take-le (held .least .result) (a .input .now) h)
 
 list-piece-requires : tie.Need-list-piece-requires
 list-piece-requires c κs = search needs
@@ -49,14 +57,19 @@ same-length-3 c = search needs
 
 returns : tie.Need-returns
 returns c =
-    let a = c .before .before .before .before .before .before .before .before .before .before .before .before .before .before .before .before .before .args in
-    let l = c .before .before .before .before .before .before .before .before .before .before .list-piece in
-    let k = c .before .before .before .keep-rest in
-    let same : toZ w64 (ofZ w64 (l .result .code)) ≡ l .result .code = search needs in
-    let s : Shown = shown (view (l .result .store .words)) (l .result .used) (l .result .written) (l .result .code) (l .last .1 .1 .1 .0) (l .last .1 .1 .1 .1 .0) in
-    turn-is (view (a .m .words)) (a .input .now) (a .count) (c .before .before .before .before .before .before .before .before .before .before .before .before .before .before .least .result) (a .ended) (a .answers .now) (a .out .now) (c .before .before .before .before .before .before .before .before .before .before .before .before .before .before .least .ensures)
+    let moved = c .before .before .before in
+    let told = moved .before .before .before in
+    let listed = listing-of told in
+    let lent = listed .before .before in
+    let held = lent .before .before in
+    let a = held .before .before .before .args in
+    let k = moved .keep-rest in
+    let l = listed .list-piece in
+    let r = l .result in
+    let s : Shown = shown (view (r .store .words)) (r .used) (r .written) (r .code) (l .last .1 .1 .1 .0) (l .last .1 .1 .1 .1 .0) in
+    turn-is (view (a .m .words)) (a .input .now) (a .count) (held .least .result) (a .ended) (a .answers .now) (a .out .now) (held .least .ensures)
     s (l .ensures) (k .result) (k .ensures .0) (k .last .0) (k .ensures .1) (c .is-over .result)
-    (c .is-over .ensures ∙ ap (λ (z : ℤ). isOver (a .ended) z (k .result)) same)
+    (c .is-over .ensures ∙ ap (λ (z : ℤ). isOver (a .ended) z (k .result)) (same-code told))
 
 pub list-turn-spec : {M : Type 1} → statement M
 list-turn-spec =
