@@ -14,6 +14,10 @@ Inv-loop fd input₀ answers₀ output₀ s₀ turns₀ input answers output s t
 abbrev μ-loop : tie.MeasureT-loop
 μ-loop fd input₀ answers₀ output₀ s₀ turns₀ input answers output s turns = turns
 
+-- the loop's place that a turn is of
+abbrev looped : tie.After-turn-arg3 Inv-loop μ-loop → tie.At-loop Inv-loop μ-loop
+looped c = let within = c .before .before .before in within .before
+
 large-buffer-requires : tie.Need-large-buffer-requires Inv-loop μ-loop
 large-buffer-requires c κs = search needs
 
@@ -39,7 +43,7 @@ loop-holds : tie.Need-loop-holds Inv-loop μ-loop
 loop-holds c = search needs
 
 turn-requires : tie.Need-turn-requires Inv-loop μ-loop
-turn-requires c κs = let i = c .before .before .before .before .loop .inv in (i .0, (i .1, i .2))
+turn-requires c κs = let i = looped c .loop .inv in (i .0, (i .1, i .2))
 
 returns : tie.Need-returns Inv-loop μ-loop
 returns c = search needs
@@ -52,8 +56,11 @@ loop-less c = search needs
 
 loop-again : tie.Need-loop-again Inv-loop μ-loop
 loop-again c =
-    let t = c .before .before .before .before .before .before .before .turn in
-    let i = c .before .before .before .before .before .before .before .before .before .before .before .before .loop .inv in
+    let given-back = c .before .before .before in
+    let input-back = given-back .before .before .before in
+    let turned = input-back .before in
+    let t = turned .turn in
+    let i = looped (turned .before) .loop .inv in
     let on = t .ensures (not-false _ (c .if1 .left)) in
     (omega (arith, on, t .kept .1 .1 .0), omega (arith, i .1, t .kept .1 .1 .0), omega (arith, i .2, t .kept .1 .1 .1 .0))
 

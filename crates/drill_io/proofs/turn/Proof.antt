@@ -11,6 +11,22 @@ use Rattle.listing.proofs.Turns.{turn-fits, turn-leaves-room}
 use Rattle.drill_io.proofs.turn.Statement.{statement}
 use Rattle.drill_io.proofs.turn.Tie as tie
 
+-- where the turn has been run, where the input has been read, and where the function starts
+abbrev turned : tie.After-after → tie.After-list-turn
+turned c = let given-back = c .before .before .before in given-back .before .before .before
+
+abbrev received : tie.After-list-turn → tie.After-receive
+received c =
+    let lent = c .before .before .before in
+    let given-back = lent .before .before .before in
+    given-back .before
+
+abbrev start : tie.After-receive → tie.Start
+start c = let before-read = c .before .before in before-read .before .before .before
+
+written-fits : (c : tie.After-list-turn) → c .list-turn .result .written ≤ length (c .list-turn .last .1 .1 .1 .1 .1 .0)
+written-fits c = omega (arith, turn-fits _ _ _ _ _ _ _ (c .list-turn .ensures), c .list-turn .kept .1 .1 .1 .1 .1 .0)
+
 receive-requires : tie.Need-receive-requires
 receive-requires c κs = search needs
 
@@ -30,12 +46,10 @@ list-turn-requires : tie.Need-list-turn-requires
 list-turn-requires c κs = search needs
 
 slice-reshare-prefix-write-all : tie.Need-slice-reshare-prefix-write-all
-slice-reshare-prefix-write-all c = let l = c .before .before .before .before .before .before .list-turn in omega (arith, turn-fits _ _ _ _ _ _ _ (l .ensures), l .kept .1 .1 .1 .1 .1 .0)
+slice-reshare-prefix-write-all c = written-fits (turned c)
 
 slice-aggregate-write-all-2 : tie.Need-slice-aggregate-write-all-2
-slice-aggregate-write-all-2 c =
-    let l = c .before .before .before .before .before .before .before .list-turn in
-    sym (length-take-le (l .result .written) (l .last .1 .1 .1 .1 .1 .0) (omega (arith, turn-fits _ _ _ _ _ _ _ (l .ensures), l .kept .1 .1 .1 .1 .1 .0)))
+slice-aggregate-write-all-2 c = sym (length-take-le _ _ (written-fits (turned (c .before))))
 
 write-all-requires-2 : tie.Need-write-all-requires-2
 write-all-requires-2 c κs = search needs
@@ -69,12 +83,12 @@ same-length-7 c = search needs
 
 returns-3 : tie.Need-returns-3
 returns-3 c e =
-    let s = c .before .before .before .before .before .before .before .before .before .before .before .before .before .before .before .before .before .before .before .before .before in
-    let r = c .before .before .before .before .before .before .before .before .before .before .before .before .before .before .before .before .receive in
-    let l = c .before .before .before .before .before .before .before .before .before .list-turn in
-    let places : 6 ≤ length (s .args .answers .now) = omega arith in
-    let large : 30 < length (r .last .1 .0) = omega (arith, r .kept .1 .0) in
-    omega (arith, turn-leaves-room _ _ _ _ _ _ places large _ (l .ensures) (not-true _ e), r .kept .1 .0)
+    let t = turned (c .before .before .before) in
+    let r = received t .receive in
+    let s = start (received t) in
+    let places : 6 ≤ length (s .args .answers .now) = omega (arith, s .pre) in
+    let large : 30 < length (r .last .1 .0) = omega (arith, s .pre, r .kept .1 .0) in
+    omega (arith, turn-leaves-room _ _ _ _ _ _ places large _ (t .list-turn .ensures) (not-true _ e), r .kept .1 .0)
 
 pub turn-spec : {M : Type 1} → statement M
 turn-spec =
