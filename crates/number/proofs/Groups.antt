@@ -90,7 +90,8 @@ module _ (input : List ℕ) (most bits place : ℕ) where
       none (suc m) l = front-none m bits place
 
   module _ (within : place < length input) where
-    pub place-last : 0 < most → getD input place 0 < 128 → getD input place 0 < 2 ^ bits → readGroups most bits place (drop place input) ≡ number (getD input place 0) (place + 1)
+    pub place-last : 0 < most → getD input place 0 < 128 → getD input place 0 < 2 ^ bits
+        → readGroups most bits place (drop place input) ≡ number (getD input place 0) (place + 1)
     place-last h k l = ap (readGroups most bits place) (rest-at input place within) ∙ last most h
       where
         last : (m : ℕ) → 0 < m → readGroups m bits place (getD input place 0 ∷ drop (place + 1) input) ≡ number (getD input place 0) (place + 1)

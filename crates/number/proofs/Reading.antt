@@ -83,7 +83,8 @@ told-front (suc most) bits place (byte ∷ bytes) =
     (below-or-not byte 128)
 
 module _ (most bits place byte : ℕ) (bytes : List ℕ) where
-  alike-last : byte < 128 → (others : List ℕ) → take 1 others ≡ byte ∷ [] → readGroups (suc most) bits place others ≡ readGroups (suc most) bits place (byte ∷ bytes)
+  alike-last : byte < 128 → (others : List ℕ) → take 1 others ≡ byte ∷ []
+      → readGroups (suc most) bits place others ≡ readGroups (suc most) bits place (byte ∷ bytes)
   alike-last h [] e = let z : _≡_ {A = ℕ} 0 1 = cc in absurd (omega arith)
   alike-last h (other ∷ others) e =
       let same : other ≡ byte = cc in
@@ -93,7 +94,8 @@ module _ (most bits place byte : ℕ) (bytes : List ℕ) where
 
   alike-more : 128 ≤ byte → (count : ℕ)
       → ((rest : List ℕ) → take count rest ≡ take count bytes → readGroups most (bits - 7) (place + 1) rest ≡ readGroups most (bits - 7) (place + 1) bytes)
-      → (others : List ℕ) → take (suc count) others ≡ byte ∷ take count bytes → readGroups (suc most) bits place others ≡ readGroups (suc most) bits place (byte ∷ bytes)
+      → (others : List ℕ) → take (suc count) others ≡ byte ∷ take count bytes
+      → readGroups (suc most) bits place others ≡ readGroups (suc most) bits place (byte ∷ bytes)
   alike-more h count rest-alike [] e = let z : _≡_ {A = ℕ} 0 1 = cc in absurd (omega arith)
   alike-more h count rest-alike (other ∷ others) e =
       let same : other ≡ byte = cc in
@@ -115,7 +117,11 @@ front-alike (suc most) bits place (byte ∷ bytes) others whole e =
     (λ h. alike-last most bits place byte bytes h others (subst (λ (k : ℕ). take k others ≡ take k (byte ∷ bytes)) (count-last most byte bytes h) e))
     (λ h.
     alike-more most bits place byte bytes h (groupCount most bytes)
-    (λ rest agree. front-alike most (bits - 7) (place + 1) bytes rest (λ c. whole (front-more most bits place byte bytes h ∙ ap (continued (byte % 128) 128) c)) agree)
+    (λ rest agree.
+    let cut : readGroups most (bits - 7) (place + 1) bytes ≡ refused 17 → ⊥ =
+    λ c. whole (front-more most bits place byte bytes h ∙ ap (continued (byte % 128) 128) c)
+    in
+    front-alike most (bits - 7) (place + 1) bytes rest cut agree)
     others (subst (λ (k : ℕ). take k others ≡ take k (byte ∷ bytes)) (count-more most byte bytes h) e))
     (below-or-not byte 128)
 
@@ -201,31 +207,6 @@ drop-take zero count input = ap (λ (k : ℕ). take k input) (zero-add count)
 drop-take (suc place) count [] = ap (drop (suc place)) (take-nil (suc place + count)) ∙ sym (take-nil count)
 drop-take (suc place) count (byte ∷ input) =
     ap (λ (k : ℕ). drop (suc place) (take k (byte ∷ input))) (suc-add place count) ∙ drop-take place count input
-
-module _ (most bits : ℕ) (input other : List ℕ) (place : ℕ) where
-  -- An answer other than 17 depends only on the bytes up to the number's end.
-  pub answer-alike : (readNumber most bits input place ≡ refused 17 → ⊥)
-      → take (numberEnd most input place) other ≡ take (numberEnd most input place) input
-      → readNumber most bits other place ≡ readNumber most bits input place
-  unfolding readNumber numberEnd
-  answer-alike whole agree =
-      let count : ℕ = groupCount most (drop place input) in
-      front-alike most bits place (drop place input) (drop place other) whole
-      (sym (drop-take place count other) ∙ ap (drop place) agree ∙ drop-take place count input)
-
-  pub number-alike : (value next : ℕ) → readNumber most bits input place ≡ number value next → take next other ≡ take next input
-      → readNumber most bits other place ≡ number value next
-  number-alike value next e agree =
-      answer-alike (λ c. let z : _≡_ {A = ℕ} 0 1 = cc in omega arith)
-      (subst (λ (k : ℕ). take k other ≡ take k input) (number-end most bits input place value next e) agree)
-      ∙ e
-
--- What follows a number does not matter.
-pub number-extends : (most bits : ℕ) (input more : List ℕ) (place value next : ℕ) → readNumber most bits input place ≡ number value next
-    → readNumber most bits (input ++ more) place ≡ number value next
-number-extends most bits input more place value next e =
-    number-alike most bits input (input ++ more) place value next e
-    (take-append-le next input more (number-within most bits input place value next e))
 
 -- What follows does not matter, unless the number is cut short.
 pub answer-extends : (most bits : ℕ) (input more : List ℕ) (place : ℕ) → place ≤ length input → (readNumber most bits input place ≡ refused 17 → ⊥)

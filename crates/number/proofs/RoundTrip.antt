@@ -1,13 +1,12 @@
 -- What is written is read, and what is read is what is written: one form for each number, for any most bytes and most bits.
 -- Assumes nothing.
 use Prim.Native.Nat.{ℕ, zero, suc, _+_, _-_, _*_, _/_, _%_, _^_, _≤_, _<_}
-use mathlib.Core.Path.{_≡_, refl, ap, ap₂, sym, _∙_, subst}
+use mathlib.Core.Path.{_≡_, ap, ap₂, sym, _∙_, subst}
 use mathlib.Core.Logic.{⊎-elim}
 use mathlib.Core.List.{List, [], _∷_, _++_, append-assoc}
-use native.Mathlib.Nat.{div-add-mod'}
 use native.Mathlib.Omega.{arith}
 use lib.Dec.{ltb}
-use lib.Pow.{pow-add, pow-mono, shr-lt}
+use lib.Pow.{pow-mono, shr-lt}
 use lib.ListN.{length, take, drop, getD, length-drop, take-append-drop}
 use lib.Seq.{getD-drop, drop-at, length-take-le, take-add}
 use Rattle.number.specs.Reader.{Reading, number, refused, continued, readGroups, readNumber, groupCount, numberEnd}
@@ -31,11 +30,13 @@ quotient-below bits value h k = shr-lt (bits - 7) 7 (subst (λ (n : ℕ). value 
     whole = omega (arith, enough)
 
 module _ (most bits place value : ℕ) (after : List ℕ) where
-  one-read : value < 128 → value < 2 ^ bits → readGroups (suc most) bits place (numberBytes (suc most) value ++ after) ≡ number value (place + length (numberBytes (suc most) value))
+  one-read : value < 128 → value < 2 ^ bits
+      → readGroups (suc most) bits place (numberBytes (suc most) value ++ after) ≡ number value (place + length (numberBytes (suc most) value))
   one-read h small = rw (bytes-last most value h) (front-last most bits place value after h small)
 
   more-read : 128 ≤ value
-      → readGroups most (bits - 7) (place + 1) (numberBytes most (value / 128) ++ after) ≡ number (value / 128) (place + 1 + length (numberBytes most (value / 128)))
+      → readGroups most (bits - 7) (place + 1) (numberBytes most (value / 128) ++ after)
+      ≡ number (value / 128) (place + 1 + length (numberBytes most (value / 128)))
       → readGroups (suc most) bits place (numberBytes (suc most) value ++ after) ≡ number value (place + length (numberBytes (suc most) value))
   more-read h rest =
       rw (bytes-more most value h)
@@ -58,7 +59,8 @@ bytes-are-read (suc most) bits place value after some small short =
     ⊎-elim (λ h. one-read most bits place value after h small)
     (λ h.
     more-read most bits place value after h
-    (bytes-are-read most (bits - 7) (place + 1) (value / 128) after (more-than-one most value h short) (quotient-below bits value small h) (fewer-groups most value h short)))
+    (bytes-are-read most (bits - 7) (place + 1) (value / 128) after
+    (more-than-one most value h short) (quotient-below bits value small h) (fewer-groups most value h short)))
     (below-or-not value 128)
 
 module _ (most : ℕ) (buffer : List ℕ) (place value next : ℕ) (e : writeAnswer most buffer place value ≡ written next) where
@@ -81,7 +83,8 @@ module _ (most : ℕ) (buffer : List ℕ) (place value next : ℕ) (e : writeAns
       let after : List ℕ = drop (place + length bytes) buffer in
       let k : 2 ^ bits ≤ 2 ^ (7 * most) = pow-mono room in
       let fit = answer-fits in
-      ap (λ (l : List ℕ). readGroups most bits place (drop place l)) (sym (fit-list most buffer place value answer-fits) ∙ append-assoc (take place buffer) bytes after)
+      ap (λ (l : List ℕ). readGroups most bits place (drop place l))
+      (sym (fit-list most buffer place value answer-fits) ∙ append-assoc (take place buffer) bytes after)
       ∙ ap (readGroups most bits place) (drop-at (take place buffer) (bytes ++ after) place (length-take-le place buffer (omega arith)))
       ∙ bytes-are-read most bits place value after some small (omega arith)
       ∙ ap (number value) (sym written-next)
@@ -129,7 +132,8 @@ form-front (suc most) bits place (byte ∷ bytes) b =
     (form-more most bits place byte bytes h (b 0) _ (form-front most (bits - 7) (place + 1) bytes (λ i. b (suc i)))))
     (below-or-not byte 128)
 
-module _ (most bits : ℕ) (input : List ℕ) (place value next : ℕ) (bytes : (i : ℕ) → getD input i 0 < 256) (e : readNumber most bits input place ≡ number value next) where
+module _ (most bits : ℕ) (input : List ℕ) (place value next : ℕ) (bytes : (i : ℕ) → getD input i 0 < 256)
+    (e : readNumber most bits input place ≡ number value next) where
   count : ℕ
   count = groupCount most (drop place input)
 

@@ -1,15 +1,15 @@
 -- What holds before each turn of the writer's loop over the groups, for any most bytes.
 -- Assumes nothing.
-use Prim.Native.Nat.{ℕ, zero, suc, _+_, _-_, _*_, _^_, _≤_, _<_, _/_, _%_}
-use mathlib.Core.Path.{_≡_, refl, ap, sym, _∙_, subst}
+use Prim.Native.Nat.{ℕ, zero, suc, _+_, _*_, _^_, _≤_, _<_, _/_, _%_}
+use mathlib.Core.Path.{_≡_, ap, sym, _∙_, subst}
 use mathlib.Core.List.{List, [], _∷_, _++_}
 use native.Mathlib.Numerals.{add-one}
 use native.Mathlib.Omega.{arith}
-use lib.Pow.{pow-mono, shr-lt}
+use lib.Pow.{shr-lt}
 use lib.ListN.{length, take, drop, set, length-set}
 use borrow.Author.Tests.{le-leb, lt-leb}
 use lib.Seq.{sets, sets-eq}
-use Rattle.number.specs.Writer.{Writing, written, unwritten, numberBytes, fits, writeAnswer, writeBuffer}
+use Rattle.number.specs.Writer.{written, unwritten, numberBytes, fits, writeAnswer, writeBuffer}
 use Rattle.number.proofs.Choice.{pick-true, pick-false}
 use Rattle.number.proofs.Groups.{bytes-last, bytes-more, bytes-some}
 

@@ -1,8 +1,8 @@
 -- What holds before each turn of the reader's loop over the groups, for any most bytes and most bits.
 -- Assumes nothing.
-use Prim.Native.Nat.{ℕ, suc, _+_, _-_, _*_, _^_, _%_, _≤_, _<_}
-use mathlib.Core.Path.{_≡_, refl, ap, sym, _∙_, subst}
-use mathlib.Core.List.{List, _∷_}
+use Prim.Native.Nat.{ℕ, _+_, _-_, _*_, _^_, _%_, _≤_, _<_}
+use mathlib.Core.Path.{_≡_, ap, sym, _∙_, subst}
+use mathlib.Core.List.{List}
 use native.Mathlib.Nat.{add-comm, mul-comm}
 use native.Mathlib.Omega.{arith}
 use lib.Arith.{digits-lt}
@@ -76,6 +76,8 @@ module _ {most bits : ℕ} {told : Reading} {input : List ℕ} {value weight at 
           below = subst (λ (n : ℕ). value + (getD input at 0 % 128) * weight < n) (mul-comm 128 weight) (sum-below (getD input at 0 % 128) 128 (omega arith));
           tells =
               t .tells
-              ∙ ap (continued value weight) (place-more input (most - groups) (bits - 7 * groups) at within (most - (groups + 1)) (bits - 7 * (groups + 1)) (omega arith) (omega arith) h)
-              ∙ continued-twice value weight (getD input at 0 % 128) (readGroups (most - (groups + 1)) (bits - 7 * (groups + 1)) (at + 1) (drop (at + 1) input));
+              ∙ ap (continued value weight)
+              (place-more input (most - groups) (bits - 7 * groups) at within (most - (groups + 1)) (bits - 7 * (groups + 1)) (omega arith) (omega arith) h)
+              ∙ continued-twice value weight (getD input at 0 % 128)
+              (readGroups (most - (groups + 1)) (bits - 7 * (groups + 1)) (at + 1) (drop (at + 1) input));
         }

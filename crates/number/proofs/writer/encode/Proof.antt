@@ -1,7 +1,7 @@
 -- `number::writer::encode` meets its contract: the number's bytes stored one by one are the buffer that the definition asks.
 -- Assumes nothing.
-use Prim.Native.Nat.{ℕ, suc, _+_, _-_, _≤_, _<_, _/_, _%_}
-use mathlib.Core.Path.{_≡_, refl, ap, sym, _∙_}
+use Prim.Native.Nat.{ℕ, suc, _+_, _≤_, _/_, _%_}
+use mathlib.Core.Path.{_≡_, ap, sym, _∙_}
 use mathlib.Core.List.{List, [], _∷_}
 use native.Mathlib.Numerals.{add-one}
 use native.Mathlib.Omega.{arith}
@@ -72,16 +72,20 @@ module _ (value : ℕ) (h : 128 ≤ value) where
   one-more : length (numberBytes 5 value) ≡ suc (length (numberBytes 4 (value / 128)))
   one-more = ap length (bytes-more 4 value h)
 
-  stored : (buffer : List ℕ) (place : ℕ) → sets (set buffer place (value % 128 + 128)) (place + 1) (numberBytes 4 (value / 128)) ≡ sets buffer place (numberBytes 5 value)
+  stored : (buffer : List ℕ) (place : ℕ)
+      → sets (set buffer place (value % 128 + 128)) (place + 1) (numberBytes 4 (value / 128)) ≡ sets buffer place (numberBytes 5 value)
   stored buffer place =
       ap (λ (k : ℕ). sets (set buffer place (value % 128 + 128)) k (numberBytes 4 (value / 128))) (add-one place)
       ∙ ap (sets buffer place) (sym (bytes-more 4 value h))
 
 encode-rest-requires : tie.Need-encode-rest-requires
 encode-rest-requires c κs =
-    let e = one-more _ (c .before .before .before .if2 .left) in
-    let s = c .before .before .size .ensures in
-    (omega (arith, c .before .before .before .before .before .before .fits .value), rw length-set (omega arith))
+    let sized = c .before .before in
+    let long = sized .before in
+    let start = long .before .before .before in
+    let e = one-more _ (long .if2 .left) in
+    let s = sized .size .ensures in
+    (omega (arith, start .fits .value), rw length-set (omega arith))
 
 same-length-2 : tie.Need-same-length-2
 same-length-2 c = c .before .before .encode-rest .kept .0 ∙ simp length-set
@@ -89,10 +93,12 @@ same-length-2 c = c .before .before .encode-rest .kept .0 ∙ simp length-set
 returns-4 : tie.Need-returns-4
 unfolding encoded
 returns-4 c =
-    let h = c .before .before .before .before .before .before .if2 .left in
+    let put = c .before .before in
+    let sized = put .before .before .before in
+    let h = sized .before .if2 .left in
     let e = one-more _ h in
-    let s = c .before .before .before .before .before .size .ensures in
-    let r = c .before .before .encode-rest .ensures in (
+    let s = sized .size .ensures in
+    let r = put .encode-rest .ensures in (
       ap written (r .0 ∙ omega arith) ∙ fit-answer 5 _ _ _ (omega arith),
       r .1 ∙ stored _ h _ _ ∙ fit-buffer 5 _ _ _ (omega arith),
     )

@@ -1,6 +1,6 @@
 -- `number::writer::size` meets its contract: each test tells one byte more.
 -- Assumes nothing.
-use Prim.Native.Nat.{ℕ, suc, _+_, _/_, _≤_, _<_}
+use Prim.Native.Nat.{ℕ, suc, _/_, _≤_, _<_}
 use mathlib.Core.Path.{_≡_, ap, sym, _∙_}
 use native.Mathlib.Omega.{arith}
 use lib.ListN.{length}
@@ -28,7 +28,10 @@ returns-4 : tie.Need-returns-4
 returns-4 c = sym (one-more 4 _ 3 (omega arith) (one-more 3 _ 2 (omega arith) (one-more 2 _ 1 (omega arith) (one 1 _ (omega arith)))))
 
 returns-5 : tie.Need-returns-5
-returns-5 c = sym (one-more 4 _ 4 (omega arith) (one-more 3 _ 3 (omega arith) (one-more 2 _ 2 (omega arith) (one-more 1 _ 1 (omega arith) (one 0 _ (omega arith))))))
+returns-5 c =
+    sym
+    (one-more 4 _ 4 (omega arith)
+    (one-more 3 _ 3 (omega arith) (one-more 2 _ 2 (omega arith) (one-more 1 _ 1 (omega arith) (one 0 _ (omega arith))))))
 
 pub size-spec : {M : Type 1} → statement M
 size-spec = tie.close (tie.spec returns returns-2 returns-3 returns-4 returns-5)
