@@ -2,7 +2,9 @@
 -- Assumes nothing.
 use mathlib.Core.List.{List, [], _∷_}
 use lib.IntN.{pos, negsuc}
-use Rattle.histories.proofs.Rows.{Row, row, placed, coded, showing, asked, without, unanswered, valueField, eventField, partyField, kindField, aField, sender, commit, alone, Spoilt, breaks, txOpen, txBegin, txCommit, tpadvertise, tpconnect, dispatch, tpcancel, tpsend, tprecv, tpdiscon, tpreturn, terminate}
+use Rattle.histories.proofs.Rows.{Row, row, placed, coded, showing, asked, without, unanswered, valueField, eventField, partyField}
+use Rattle.histories.proofs.Rows.{kindField, aField, sender, commit, alone, Spoilt, breaks, txOpen, txBegin, txCommit, tpadvertise}
+use Rattle.histories.proofs.Rows.{tpconnect, dispatch, tpcancel, tpsend, tprecv, tpdiscon, tpreturn, terminate}
 
 -- a conversation with four turns in a transaction that is committed
 abbrev pub turns : List Row

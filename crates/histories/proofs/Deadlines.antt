@@ -2,7 +2,8 @@
 -- Assumes nothing.
 use mathlib.Core.List.{List, [], _∷_}
 use lib.IntN.{pos, negsuc}
-use Rattle.histories.proofs.Rows.{Row, row, coded, without, commit, Spoilt, breaks, txOpen, txClose, txBegin, txCommit, txRollback, txInfo, txSetControl, txSetTimeout, tpadvertise, tpacall, dispatch, tpgetrply, tpreturn, terminate, noKind}
+use Rattle.histories.proofs.Rows.{Row, row, coded, without, commit, Spoilt, breaks, txOpen, txClose, txBegin, txCommit, txRollback, txInfo}
+use Rattle.histories.proofs.Rows.{txSetControl, txSetTimeout, tpadvertise, tpacall, dispatch, tpgetrply, tpreturn, terminate, noKind}
 
 -- timeout 10: begun at 5 and committed at 14, begun at 20 and too late at 30; malformed calls with a late clock in between
 abbrev pub deadline : List Row

@@ -3,7 +3,8 @@
 -- Assumes nothing.
 use mathlib.Core.List.{List, [], _∷_}
 use lib.IntN.{pos, negsuc}
-use Rattle.histories.proofs.Rows.{Row, row, coded, showing, commit, Spoilt, breaks, valueField, txOpen, txBegin, txCommit, tpadvertise, tpconnect, dispatch, tpsend, tpdiscon, terminate}
+use Rattle.histories.proofs.Rows.{Row, row, coded, showing, commit, Spoilt, breaks, valueField, txOpen, txBegin}
+use Rattle.histories.proofs.Rows.{txCommit, tpadvertise, tpconnect, dispatch, tpsend, tpdiscon, terminate}
 
 -- the caller disconnects, and then the service dies: the booking is rolled back, and the next one is not touched
 abbrev pub diesAfterDisconnect : List Row

@@ -4,7 +4,8 @@
 -- Assumes nothing.
 use mathlib.Core.List.{List, [], _∷_}
 use lib.IntN.{pos, negsuc}
-use Rattle.histories.proofs.Rows.{Row, row, sender, commit, Spoilt, breaks, txOpen, txBegin, txCommit, txSetTimeout, tpadvertise, tpacall, tpconnect, dispatch, tpgetrply, tpsend, tprecv, tpdiscon, tpreturn, terminate}
+use Rattle.histories.proofs.Rows.{Row, row, sender, commit, Spoilt, breaks, txOpen, txBegin, txCommit, txSetTimeout, tpadvertise}
+use Rattle.histories.proofs.Rows.{tpacall, tpconnect, dispatch, tpgetrply, tpsend, tprecv, tpdiscon, tpreturn, terminate}
 
 -- ---- the commit
 -- a commit gives −2 whatever the record shows: rolled back with nothing against it

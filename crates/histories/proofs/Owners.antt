@@ -2,7 +2,8 @@
 -- Assumes nothing.
 use mathlib.Core.List.{List, [], _∷_}
 use lib.IntN.{pos, negsuc}
-use Rattle.histories.proofs.Rows.{Row, row, coded, asked, without, unanswered, partyField, commit, alone, Spoilt, breaks, txOpen, txBegin, txCommit, tpadvertise, tpacall, dispatch, tpgetrply, tpreturn}
+use Rattle.histories.proofs.Rows.{Row, row, coded, asked, without, unanswered, partyField, commit, alone, Spoilt, breaks}
+use Rattle.histories.proofs.Rows.{txOpen, txBegin, txCommit, tpadvertise, tpacall, dispatch, tpgetrply, tpreturn}
 
 -- two owners, whose transactions go on side by side: one is committed while a service of the other is at work, which fails then
 abbrev pub owners : List Row

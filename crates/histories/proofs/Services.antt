@@ -2,7 +2,9 @@
 -- Assumes nothing.
 use mathlib.Core.List.{List, [], _∷_}
 use lib.IntN.{pos, negsuc}
-use Rattle.histories.proofs.Rows.{Row, row, coded, showing, asked, without, valueField, txField, partyField, bField, commit, alone, Spoilt, breaks, txOpen, txBegin, txCommit, txRollback, tpadvertise, tpacall, dispatch, tpgetrply, tpcancel, tpreturn, terminate}
+use Rattle.histories.proofs.Rows.{Row, row, coded, showing, asked, without, valueField, txField, partyField, bField}
+use Rattle.histories.proofs.Rows.{commit, alone, Spoilt, breaks, txOpen, txBegin, txCommit, txRollback, tpadvertise}
+use Rattle.histories.proofs.Rows.{tpacall, dispatch, tpgetrply, tpcancel, tpreturn, terminate}
 
 -- a service calls another in the same transaction, and all end well; the servers commits are refused
 abbrev pub nested : List Row

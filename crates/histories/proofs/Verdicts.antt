@@ -6,7 +6,11 @@ use mathlib.Core.List.{List, [], _++_}
 use mathlib.Core.Bool.{Bool, true, not, _&&_}
 use Prim.Native.Nat.{ℕ, _<_}
 use lib.ListN.{length, getD}
-use Rattle.rules.specs.History.{some, ofKind, by, answeredBy, withValue, withEvent, past21, accepted, linkOn, on, isSend, differentEnds, givenSendOnly, sendsApart, endsIn, upToStart, startedBy, shownOwner, latestTx, isOwnersCommit, committed, flag2, makes, isLinkOf, serves, failedEnd, disconnect, greatestClock, shownTimeout, timeoutAtStart, due, deadlinePassed, finishes, unfinished, reasonAgainst, othersAtWork, senderRule, commitRule, aloneRule, holds, firstCall, firstAnswer, thenCalls, thenList}
+use Rattle.rules.specs.History.{some, ofKind, by, answeredBy, withValue, withEvent, past21, accepted, linkOn, on, isSend, differentEnds}
+use Rattle.rules.specs.History.{givenSendOnly, sendsApart, endsIn, upToStart, startedBy, shownOwner, latestTx, isOwnersCommit, committed, flag2}
+use Rattle.rules.specs.History.{makes, isLinkOf, serves, failedEnd, disconnect, greatestClock, shownTimeout, timeoutAtStart, due, deadlinePassed}
+use Rattle.rules.specs.History.{finishes, unfinished, reasonAgainst, othersAtWork, senderRule, commitRule, aloneRule, holds, firstCall, firstAnswer}
+use Rattle.rules.specs.History.{thenCalls, thenList}
 use Rattle.rules.proofs.Tables.{every, entry}
 use Rattle.histories.proofs.Rows.{Row, eventsOf, commit, onlyBreaks, Spoilt, breaks}
 use Rattle.histories.proofs.Deaths
@@ -33,19 +37,22 @@ kept rs = holds (eventsOf rs)
 abbrev pub refuted : Spoilt → Bool
 refuted s = not (holds (eventsOf (s .rows))) && onlyBreaks (s .rule) (eventsOf (s .rows))
 
+-- Each test over its table, all of them in one place: what the statement is made of is unfolded once.
+computed : (every kept real ≡ true) × (every kept harmless ≡ true) × (every refuted spoilt ≡ true) × (every refuted Faults.faulty ≡ true)
+unfolding every some ofKind by answeredBy withValue withEvent past21 accepted linkOn on isSend differentEnds givenSendOnly sendsApart endsIn upToStart
+    startedBy shownOwner latestTx isOwnersCommit committed flag2 makes isLinkOf serves failedEnd disconnect greatestClock shownTimeout timeoutAtStart
+    due deadlinePassed finishes unfinished reasonAgainst othersAtWork senderRule commitRule aloneRule holds firstCall firstAnswer thenCalls thenList
+computed = (refl, refl, refl, refl)
+
 pub real-holds : (k : ℕ) → k < length real → kept (getD real k []) ≡ true
-unfolding every some ofKind by answeredBy withValue withEvent past21 accepted linkOn on isSend differentEnds givenSendOnly sendsApart endsIn upToStart startedBy shownOwner latestTx isOwnersCommit committed flag2 makes isLinkOf serves failedEnd disconnect greatestClock shownTimeout timeoutAtStart due deadlinePassed finishes unfinished reasonAgainst othersAtWork senderRule commitRule aloneRule holds firstCall firstAnswer thenCalls thenList
-real-holds = entry kept [] real refl
+real-holds = entry kept [] real (computed .0)
 
 pub harmless-holds : (k : ℕ) → k < length harmless → kept (getD harmless k []) ≡ true
-unfolding every some ofKind by answeredBy withValue withEvent past21 accepted linkOn on isSend differentEnds givenSendOnly sendsApart endsIn upToStart startedBy shownOwner latestTx isOwnersCommit committed flag2 makes isLinkOf serves failedEnd disconnect greatestClock shownTimeout timeoutAtStart due deadlinePassed finishes unfinished reasonAgainst othersAtWork senderRule commitRule aloneRule holds firstCall firstAnswer thenCalls thenList
-harmless-holds = entry kept [] harmless refl
+harmless-holds = entry kept [] harmless (computed .1)
 
 pub spoilt-refuted : (k : ℕ) → k < length spoilt → refuted (getD spoilt k (breaks commit [])) ≡ true
-unfolding every some ofKind by answeredBy withValue withEvent past21 accepted linkOn on isSend differentEnds givenSendOnly sendsApart endsIn upToStart startedBy shownOwner latestTx isOwnersCommit committed flag2 makes isLinkOf serves failedEnd disconnect greatestClock shownTimeout timeoutAtStart due deadlinePassed finishes unfinished reasonAgainst othersAtWork senderRule commitRule aloneRule holds firstCall firstAnswer thenCalls thenList
-spoilt-refuted = entry refuted (breaks commit []) spoilt refl
+spoilt-refuted = entry refuted (breaks commit []) spoilt (computed .2)
 
 -- nor does it hold of what the wrong rules answer
 pub faulty-refuted : (k : ℕ) → k < length Faults.faulty → refuted (getD Faults.faulty k (breaks commit [])) ≡ true
-unfolding every some ofKind by answeredBy withValue withEvent past21 accepted linkOn on isSend differentEnds givenSendOnly sendsApart endsIn upToStart startedBy shownOwner latestTx isOwnersCommit committed flag2 makes isLinkOf serves failedEnd disconnect greatestClock shownTimeout timeoutAtStart due deadlinePassed finishes unfinished reasonAgainst othersAtWork senderRule commitRule aloneRule holds firstCall firstAnswer thenCalls thenList
-faulty-refuted = entry refuted (breaks commit []) Faults.faulty refl
+faulty-refuted = entry refuted (breaks commit []) Faults.faulty (computed .3)

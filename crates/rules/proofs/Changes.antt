@@ -25,7 +25,13 @@ live-length m fr = length-take-le (m .count) (m .links) (let a = fr .shape .link
 -- ---- other parties, the same links (`live` computes to that of m)
 pub parties-frame : (m : Monitor) → Frame m → (ps : List Party) → length ps ≡ 16 → Frame (withParties m ps)
 parties-frame m fr ps e =
-    record { shape = record { parties16 = e; links32 = fr .shape .links32 }; count32 = fr .count32; lastLink = fr .lastLink; lastTx = fr .lastTx; rising = fr .rising }
+    record {
+      shape = record { parties16 = e; links32 = fr .shape .links32 };
+      count32 = fr .count32;
+      lastLink = fr .lastLink;
+      lastTx = fr .lastTx;
+      rising = fr .rising;
+    }
 
 -- ---- in a list: the first place that passes a test, and a place at which l stands instead
 place-fits : (f : Link → Bool) (ls : List Link) → firstOf f ls < length ls → f (getD ls (firstOf f ls) freshLink) ≡ true
@@ -56,7 +62,8 @@ module _ (l : Link) where
   set-same lo hi i [] h k e = absurd (omega arith)
   set-same lo hi zero (x ∷ xs) h k e = rw (same-refl (l .number))
   set-same lo hi (suc i) (x ∷ xs) h k e =
-      rw (same-ne (x .number) (l .number) (let r = place-above (x .number) hi i xs (h .1) (omega arith) in omega arith)) (set-same (x .number) hi i xs (h .1) (omega arith) e)
+      rw (same-ne (x .number) (l .number) (let r = place-above (x .number) hi i xs (h .1) (omega arith) in omega arith))
+      (set-same (x .number) hi i xs (h .1) (omega arith) e)
 
   set-other : (d i : ℕ) (ls : List Link) → l .number ≡ getD ls i freshLink .number → same d (l .number) ≡ false → look d (set ls i l) ≡ look d ls
   unfolding look pick
@@ -159,7 +166,8 @@ rebuilt-length ls h =
     let c : length blanks ≡ 32 = length-replicate 32 freshLink in
     omega arith
 
-pub rebuilt-frame : (m : Monitor) → Frame m → (ps : List Party) → length ps ≡ 16 → (ls : List Link) → length ls ≤ 32 → Between 0 ls (m .lastlink) → Frame (rebuilt (withParties m ps) ls)
+pub rebuilt-frame : (m : Monitor) → Frame m → (ps : List Party) → length ps ≡ 16 → (ls : List Link) → length ls ≤ 32 → Between 0 ls (m .lastlink)
+    → Frame (rebuilt (withParties m ps) ls)
 rebuilt-frame m fr ps e ls h b = record {
   shape = record { parties16 = e; links32 = rebuilt-length ls h };
   count32 = h;

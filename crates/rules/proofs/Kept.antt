@@ -47,7 +47,8 @@ module _ (m : Monitor) (s : SoundRecord m) (c : Call) where
   fine₀ : Fine (advanced m (c .clock))
   fine₀ = clock-fine m (laterOf (m .clock) (c .clock)) (fine-of s)
 
-  rule-kept : isKind (c .kind) ≡ true → c .party < 16 → Moved (advanced m (c .clock)) c (ruleOf (advanced m (c .clock)) (c .party) (c .kind) (c .a) (c .b) (c .c))
+  rule-kept : isKind (c .kind) ≡ true → c .party < 16
+      → Moved (advanced m (c .clock)) c (ruleOf (advanced m (c .clock)) (c .party) (c .kind) (c .a) (c .b) (c .c))
   rule-kept k p = rule-moved (advanced m (c .clock)) c fine₀ p k
 
   pub call-sound-kept : SoundRecord (callOf m c .monitor)

@@ -59,20 +59,24 @@ pub list-each-call : (m : Monitor) (cs : List ℕ) (out : List ℤ) → listOf m
 unfolding listOf
 list-each-call m cs out = byTest Each (λ _. byTest Each (λ _. byTest Each
     (λ _ _ i h. each-call (callsIn cs) i m cs (drop (callsIn cs * 6) out) h)
-    (λ _ e. absurd (codes-differ unsound listRun refl e))) (λ _ e. absurd (codes-differ tooLittleRoom listRun refl e))) (λ _ e. absurd (codes-differ cutShort listRun refl e))
+    (λ _ e. absurd (codes-differ unsound listRun refl e)))
+    (λ _ e. absurd (codes-differ tooLittleRoom listRun refl e)))
+    (λ _ e. absurd (codes-differ cutShort listRun refl e))
   where
     Each : Listed → Type 0
     Each l = l .code ≡ listRun → (i : ℕ) → i < callsIn cs → shownIn m cs (l .places) i ≡ callOf (ranOf i m cs) (callIn cs i)
 
 -- a refused call inside a list is what a refused call is, and the calls after it go on from there
 pub list-refusal-law : (m : Monitor) (cs : List ℕ) (out : List ℤ) → listOf m cs out .code ≡ listRun → (i : ℕ) → i < callsIn cs
-    → isRefusal (shownIn m cs (listOf m cs out .places) i .answer .code) ≡ true → Refused (ranOf i m cs) (callIn cs i) (shownIn m cs (listOf m cs out .places) i)
+    → isRefusal (shownIn m cs (listOf m cs out .places) i .answer .code) ≡ true
+    → Refused (ranOf i m cs) (callIn cs i) (shownIn m cs (listOf m cs out .places) i)
 list-refusal-law m cs out e i h =
     subst (λ (s : Stepped). isRefusal (s .answer .code) ≡ true → Refused (ranOf i m cs) (callIn cs i) s)
     (sym (list-each-call m cs out e i h)) (call-refusal-law (ranOf i m cs) (callIn cs i))
 
 -- "Either leaves monitor and answers unchanged"; "a list refused with 19 writes no answers"
-pub refused-list-law : (m : Monitor) (cs : List ℕ) (out : List ℤ) → isRefusal (listOf m cs out .code) ≡ true → listOf m cs out ≡ listed (listOf m cs out .code) m out
+pub refused-list-law : (m : Monitor) (cs : List ℕ) (out : List ℤ) → isRefusal (listOf m cs out .code) ≡ true
+    → listOf m cs out ≡ listed (listOf m cs out .code) m out
 unfolding listOf isRefusal
 refused-list-law m cs out = byTest Unchanged (λ _. byTest Unchanged (λ _. byTest Unchanged
     (λ _ e. not-both e refl) (λ _ _. refl)) (λ _ _. refl)) (λ _ _. refl)

@@ -122,5 +122,9 @@ holds-right e h =
     }
 
 pub marked-holds : (k : ℕ) → k < length marked → Holds (getD marked k freshBegin)
-unfolding every right pick same noBegin firstOf anyOf collect blanks numbered owns ownEnd linkOf changed goneOf removed servedTx txOf ended expired isOwner deadlineOf beginTx orphaned endOf endTx isOpenOf canCommit stateOf nextOf inState entered openOf closeOf beginOf goOn commitCode commitOf timeoutOf inSet offers countTo offered withService offersNow advertiseOf linkTx askLink requestOf connectOf requestEnd cancelOf originatorEnd serverEnd anyEnd hearsDisconnect hearsReturn endSide isSender sendOn sendOf linksGood worksFor partyGood partiesGood sound ruleOf laterOf answeredTo turnedDown callOf callAt placesOf ranOf answersOf listOf
+unfolding every right pick same noBegin firstOf anyOf collect blanks numbered owns ownEnd linkOf changed goneOf removed servedTx txOf ended expired
+    isOwner deadlineOf beginTx orphaned endOf endTx isOpenOf canCommit stateOf nextOf inState entered openOf closeOf beginOf goOn commitCode commitOf
+    timeoutOf inSet offers countTo offered withService offersNow advertiseOf linkTx askLink requestOf connectOf requestEnd cancelOf originatorEnd
+    serverEnd anyEnd hearsDisconnect hearsReturn endSide isSender sendOn sendOf linksGood worksFor partyGood partiesGood sound ruleOf laterOf
+    answeredTo turnedDown callOf callAt placesOf ranOf answersOf listOf
 marked-holds k h = holds-right (getD marked k freshBegin) (entry right freshBegin marked refl k h)

@@ -19,7 +19,8 @@ use Rattle.rules.specs.Sound.{choicesGood}
 use Rattle.rules.specs.declared.Link.{Link}
 use Rattle.rules.specs.declared.Party.{Party}
 use Rattle.rules.specs.declared.Monitor.{Monitor}
-use Rattle.rules.proofs.Logic.{Nz, pick-true, pick-false, and-l, not-true, not-false, test, byTest, not-both, same-refl, same-true, same-false, same-ne, and-r}
+use Rattle.rules.proofs.Logic.{Nz, pick-true, pick-false, and-l, not-true, not-false, test, byTest}
+use Rattle.rules.proofs.Logic.{not-both, same-refl, same-true, same-false, same-ne, and-r}
 use Rattle.rules.proofs.Fine.{noLink, look, Between, Shape, Frame}
 use Rattle.rules.proofs.Looks.{look-below}
 use Rattle.rules.proofs.Changes.{parties-frame}
@@ -49,7 +50,8 @@ owner-some t (x ∷ ps) h = test (same (x .owned) t)
     (λ e. let r = owner-some t ps (rw e at h) in (suc (r .0), r .1))
 
 -- the only party that owns t is its owner
-pub owner-is : (t : ℕ) → Nz t → (q : ℕ) (ps : List Party) → getD ps q freshParty .owned ≡ t → ((r : ℕ) → getD ps r freshParty .owned ≡ t → r ≡ q) → ownerOf ps t ≡ q
+pub owner-is : (t : ℕ) → Nz t → (q : ℕ) (ps : List Party) → getD ps q freshParty .owned ≡ t → ((r : ℕ) → getD ps r freshParty .owned ≡ t → r ≡ q)
+    → ownerOf ps t ≡ q
 unfolding firstOf owns pick
 owner-is t n q [] h u = absurd (same-false t 0 n (sym h))
 owner-is t n zero (x ∷ ps) h u = let z : same (x .owned) t ≡ true = rw h (same-refl t) in rw z
@@ -98,7 +100,8 @@ unfolding rollbackOnlyIn
 rollbackOnlyIn-length t ps = byTest (λ (x : List Party). length x ≡ length ps) (λ _. refl) (λ _. length-set ps _ _)
 
 -- each party is as it was, or has the mark besides
-pub rollbackOnlyIn-either : (t : ℕ) (X : Party → Type 0) (q : ℕ) (ps : List Party) → X (getD ps q freshParty) → X (rollbackOnly (getD ps q freshParty)) → X (getD (rollbackOnlyIn t ps) q freshParty)
+pub rollbackOnlyIn-either : (t : ℕ) (X : Party → Type 0) (q : ℕ) (ps : List Party) → X (getD ps q freshParty)
+    → X (rollbackOnly (getD ps q freshParty)) → X (getD (rollbackOnlyIn t ps) q freshParty)
 unfolding rollbackOnlyIn
 rollbackOnlyIn-either t X q ps a b = byTest (λ (x : List Party). X (getD x q freshParty)) (λ _. a) (λ _. marks-either t X q ps a b)
 
@@ -153,7 +156,8 @@ marks-good x y (marked e) g = rw e (mark-good x g)
 pub rollbackOnlyBy-length : (p : ℕ) (ls : List Link) (ps : List Party) → length (rollbackOnlyBy p ls ps) ≡ length ps
 unfolding rollbackOnlyBy
 rollbackOnlyBy-length p [] ps = refl
-rollbackOnlyBy-length p (l ∷ ls) ps = rollbackOnlyBy-length p ls _ ∙ byTest (λ (x : List Party). length x ≡ length ps) (λ _. rollbackOnlyIn-length (l .tx) ps) (λ _. refl)
+rollbackOnlyBy-length p (l ∷ ls) ps =
+    rollbackOnlyBy-length p ls _ ∙ byTest (λ (x : List Party). length x ≡ length ps) (λ _. rollbackOnlyIn-length (l .tx) ps) (λ _. refl)
 
 pub rollbackOnlyBy-either : (p : ℕ) (X : Party → Type 0) → ((x : Party) → X x → X (rollbackOnly x)) → (q : ℕ) (ls : List Link) (ps : List Party)
     → X (getD ps q freshParty) → X (getD (rollbackOnlyBy p ls ps) q freshParty)
@@ -168,10 +172,13 @@ rollbackOnlyBy-step : (p q : ℕ) (l : Link) (ps : List Party) → (originatorEn
 rollbackOnlyBy-step p q l ps a = byTest (λ (y : List Party). getD y q freshParty ≡ getD ps q freshParty) a (λ _. refl)
 
 -- a party that owns nothing stays as it was, and so does one whose transaction is that of none of them
-pub rollbackOnlyBy-free : (p q : ℕ) (ls : List Link) (ps : List Party) → getD ps q freshParty .owned ≡ 0 → getD (rollbackOnlyBy p ls ps) q freshParty ≡ getD ps q freshParty
+pub rollbackOnlyBy-free : (p q : ℕ) (ls : List Link) (ps : List Party) → getD ps q freshParty .owned ≡ 0
+    → getD (rollbackOnlyBy p ls ps) q freshParty ≡ getD ps q freshParty
 unfolding rollbackOnlyBy
 rollbackOnlyBy-free p q [] ps e = refl
-rollbackOnlyBy-free p q (l ∷ ls) ps e = let i = rollbackOnlyBy-step p q l ps (λ _. rollbackOnlyIn-free (l .tx) q ps e) in rollbackOnlyBy-free p q ls _ (ap (λ x. x .owned) i ∙ e) ∙ i
+rollbackOnlyBy-free p q (l ∷ ls) ps e =
+    let i = rollbackOnlyBy-step p q l ps (λ _. rollbackOnlyIn-free (l .tx) q ps e) in
+    rollbackOnlyBy-free p q ls _ (ap (λ x. x .owned) i ∙ e) ∙ i
 
 not-missing : (p e lo hi : ℕ) (ls : List Link) → Between lo ls hi → originatorEnd p (look e ls) ≡ true → lo < e
 unfolding originatorEnd ownEnd noLink

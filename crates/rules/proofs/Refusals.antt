@@ -5,7 +5,9 @@ use mathlib.Core.Bool.{Bool, true, false, not, _&&_, _||_}
 use Prim.Native.Nat.{ℕ}
 use lib.IntN.{ℤ}
 use Rattle.rules.specs.Choice.{pick}
-use Rattle.rules.specs.Codes.{txOk, txProtocolError, txError, txEinval, noBegin, unsound, unknownKind, unknownParty, badArgument, notAllowedNow, noSuchEnd, notOffered, noRoomLeft, inTransaction, timedOut, nothingWaiting, noReplyYet, nothingUnread, unreadFull}
+use Rattle.rules.specs.Codes.{txOk, txProtocolError, txError, txEinval, noBegin, unsound, unknownKind, unknownParty}
+use Rattle.rules.specs.Codes.{badArgument, notAllowedNow, noSuchEnd, notOffered, noRoomLeft, inTransaction}
+use Rattle.rules.specs.Codes.{timedOut, nothingWaiting, noReplyYet, nothingUnread, unreadFull}
 use Rattle.rules.specs.Record.{linkOf, ruled}
 use Rattle.rules.specs.Transaction.{servedTx, txOf}
 use Rattle.rules.specs.Tx.{openOf, closeOf, beginOf, goOn, commitCode, commitOf, rollbackOf, infoOf, commitReturnOf, controlOf, timeoutOf}

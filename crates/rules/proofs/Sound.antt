@@ -19,7 +19,8 @@ use Rattle.rules.specs.declared.Ruled.{Ruled}
 use Rattle.rules.proofs.Logic.{Nz, pick-true, pick-false, test, byTest, not-both, same-refl, same-true, same-ne, and-l, and-r, and-true, byNumber}
 use Rattle.rules.proofs.Fine.{noLink, look, Between, Shape, Fine}
 use Rattle.rules.proofs.Looks.{look-below, look-next, linkOf-look, look-linkOf}
-use Rattle.rules.proofs.History.Moves.{Like, Left, alike, gone, shut, back, Idle, Ends, Begins, Makes, Takes, Move, quiet, sends, grants, finishes, cancels, disconnects, leaves, ends, begins, renews, makes, makesFree, takes}
+use Rattle.rules.proofs.History.Moves.{Like, Left, alike, gone, shut, back, Idle, Ends, Begins, Makes, Takes, Move, quiet, sends, grants}
+use Rattle.rules.proofs.History.Moves.{finishes, cancels, disconnects, leaves, ends, begins, renews, makes, makesFree, takes}
 use Rattle.rules.proofs.History.Left.{fades-works}
 use Rattle.rules.proofs.History.Tells.{Tell}
 use Rattle.rules.proofs.History.Walk.Moved.{Moved}
@@ -103,8 +104,12 @@ sound-fine m sh h =
     let c = and-r (leb (m .lastlink) 60000) _ (b .1) in
     let d = and-r (leb (m .lasttx) 60000) _ c in
     let ls = and-l (linksGood (m .lastlink) 0 (live m)) _ d in
-    let ps : (q : ℕ) → partyGood m q (party m q) ≡ true = λ q. parties-good m 0 q q (m .parties) (omega arith) (and-r (linksGood (m .lastlink) 0 (live m)) _ d) in
-    let ws : (q : ℕ) → Nz (party m q .served) → worksFor q (look (party m q .served) (live m)) ≡ true = λ q n. works-look m q (party m q .served) (party-works m q (party m q) (ps q) n) in
+    let ps : (q : ℕ) → partyGood m q (party m q) ≡ true =
+    λ q. parties-good m 0 q q (m .parties) (omega arith) (and-r (linksGood (m .lastlink) 0 (live m)) _ d)
+    in
+    let ws : (q : ℕ) → Nz (party m q .served) → worksFor q (look (party m q .served) (live m)) ≡ true =
+    λ q n. works-look m q (party m q .served) (party-works m q (party m q) (ps q) n)
+    in
     record {
       frame = record {
         shape = sh;
@@ -207,7 +212,8 @@ module _ {P : ℕ → Party} {L : ℕ → Link} {P′ : ℕ → Party} {L′ : �
   ends-good p k = good-after (λ e. left-safe (k .less e)) (λ q _. k .served′ q) (λ q _. k .works′ (P q .served))
 
   begins-good : (p t : ℕ) → Begins P L P′ L′ p t → Good P′ L′
-  begins-good p t k = good-after (λ e. same-safe (k .links′ e)) (λ q _. k .served′ q) (λ q _ w. subst (λ (x : Link). isWorking x ≡ true) (sym (k .links′ (P q .served))) w)
+  begins-good p t k =
+      good-after (λ e. same-safe (k .links′ e)) (λ q _. k .served′ q) (λ q _ w. subst (λ (x : Link). isWorking x ≡ true) (sym (k .links′ (P q .served))) w)
 
   makes-good : (p d x : ℕ) → isWorking (L d) ≡ false → Makes P L P′ L′ p d x → Good P′ L′
   makes-good p d x n k = idle-good (k .idle)
@@ -217,9 +223,12 @@ module _ {P : ℕ → Party} {L : ℕ → Link} {P′ : ℕ → Party} {L′ : �
   takes-good : (p d : ℕ) → p < 16 → Takes P L P′ L′ p d → Good P′ L′
   takes-good p d h k =
       let kept : (q : ℕ) → same q p ≡ false → Nz (P q .served) → L′ (P′ q .served) ≡ L (P q .served) = λ q a n. ap L′ (k .served′ q a)
-      ∙ k .others (P q .served) (same-ne _ d (λ r. not-both (k .waits) (working-waits-not (L d) (subst (λ (x : ℕ). isWorking (L x) ≡ true) r (g .works q n))))) in
+      ∙ k .others (P q .served)
+      (same-ne _ d (λ r. not-both (k .waits) (working-waits-not (L d) (subst (λ (x : ℕ). isWorking (L x) ≡ true) r (g .works q n))))) in
       let nz : (q : ℕ) → same q p ≡ false → Nz (P′ q .served) → Nz (P q .served) = λ q a n. subst (λ (x : ℕ). Nz x) (k .served′ q a) n in
-      let new : (q : ℕ) → same q p ≡ true → L′ (P′ q .served) ≡ working (L d) p = λ q a. ap (λ (x : ℕ). L′ (P′ x .served)) (same-true q p a) ∙ ap L′ (k .pServed) ∙ k .works in
+      let new : (q : ℕ) → same q p ≡ true → L′ (P′ q .served) ≡ working (L d) p =
+      λ q a. ap (λ (x : ℕ). L′ (P′ x .served)) (same-true q p a) ∙ ap L′ (k .pServed) ∙ k .works
+      in
       record {
         links = λ e. test (same e d)
             (λ a. subst (λ (x : Link). linkGood x ≡ true) (sym (ap L′ (same-true e d a) ∙ k .works)) (working-good (L d) p h (k .waits) (g .links d)))
@@ -237,9 +246,12 @@ move-good : (c : Call) (p n m n′ m′ : ℕ) {P : ℕ → Party} {L : ℕ → 
 move-good c p n m n′ m′ h z g (quiet k i l s) = like-good g i l
 move-good c p n m n′ m′ h z g (sends k d s) = like-good g (s .idle) (s .like)
 move-good c p n m n′ m′ h z g (grants k d s) = like-good g (s .idle) (s .like)
-move-good c p n m n′ m′ h z g (finishes k d f) = idle-good g (f .idle) (one-safe _ _ d (gone-safe (f .gone′)) (f .others)) (fades-works d (f .others) (λ w. not-both w (f .rests)))
-move-good c p n m n′ m′ h z g (cancels k d f) = idle-good g (f .idle) (one-safe _ _ d (left-safe (f .fade)) (f .others)) (fades-works d (f .others) (f .fadeWorks))
-move-good c p n m n′ m′ h z g (disconnects k d f) = good-after g (one-safe _ _ d (left-safe (f .fade)) (f .others)) (λ q _. f .served′ q) (λ q _. fades-works d (f .others) (f .fadeWorks) _)
+move-good c p n m n′ m′ h z g (finishes k d f) =
+    idle-good g (f .idle) (one-safe _ _ d (gone-safe (f .gone′)) (f .others)) (fades-works d (f .others) (λ w. not-both w (f .rests)))
+move-good c p n m n′ m′ h z g (cancels k d f) =
+    idle-good g (f .idle) (one-safe _ _ d (left-safe (f .fade)) (f .others)) (fades-works d (f .others) (f .fadeWorks))
+move-good c p n m n′ m′ h z g (disconnects k d f) =
+    good-after g (one-safe _ _ d (left-safe (f .fade)) (f .others)) (λ q _. f .served′ q) (λ q _. fades-works d (f .others) (f .fadeWorks) _)
 move-good c p n m n′ m′ h z g (leaves k bad l s) = good-after g (λ e. left-safe (l .less e)) (l .served′) (l .stays)
 move-good c p n m n′ m′ h z g (ends k e) = ends-good g p e
 move-good c p n m n′ m′ h z g (begins a b s x k) = begins-good g p (suc m) k
@@ -253,5 +265,7 @@ unfolding noLink
 moved-fine m c r fi mv h =
     let z : isWorking (look (suc (m .lastlink)) (live m)) ≡ false = rw (look-next m (fi .frame)) in
     let g : Good (λ q. party m q) (λ d. look d (live m)) = record { links = fi .links; works = fi .works; mine = fi .mine } in
-    let g′ : Good (λ q. party (r .monitor) q) (λ d. look d (live (r .monitor))) = move-good c (c .party) (m .lastlink) (m .lasttx) (r .monitor .lastlink) (r .monitor .lasttx) h z g (mv .move) in
+    let g′ : Good (λ q. party (r .monitor) q) (λ d. look d (live (r .monitor))) =
+    move-good c (c .party) (m .lastlink) (m .lasttx) (r .monitor .lastlink) (r .monitor .lasttx) h z g (mv .move)
+    in
     record { frame = mv .frame; links = g′ .links; choices = λ q. mv .choices q (fi .choices q); works = g′ .works; mine = g′ .mine }

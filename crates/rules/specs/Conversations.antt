@@ -6,7 +6,8 @@ use lib.ListN.{getD}
 use lib.Dec.{eqb, ltb, leb}
 use Rattle.rules.specs.Choice.{pick, same}
 use Rattle.rules.specs.Codes.{badArgument, notAllowedNow, noSuchEnd, timedOut, nothingUnread, unreadFull, tpAccepted, tpeEvent, tpevDisconImm, tpevSvcSucc, tpevSendOnly}
-use Rattle.rules.specs.Record.{isConversation, isWorking, isReturned, isDisconnected, isNotified, ownEnd, linkOf, disconnectedLink, notified, withSent, withoutOldest, changed, removed, valued, ask}
+use Rattle.rules.specs.Record.{isConversation, isWorking, isReturned, isDisconnected, isNotified, ownEnd, linkOf, disconnectedLink}
+use Rattle.rules.specs.Record.{notified, withSent, withoutOldest, changed, removed, valued, ask}
 use Rattle.rules.specs.Transaction.{expired, rollbackOnlyTx}
 use Rattle.rules.specs.declared.Ruled.{Ruled}
 use Rattle.rules.specs.declared.Link.{Link}

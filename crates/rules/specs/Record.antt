@@ -19,7 +19,24 @@ abbrev pub freshParty : Party
 freshParty = record { opened = 0; control = 0; timeout = 0; services = 0; owned = 0; deadline = 0; rollbackonly = 0; served = 0 }
 
 abbrev pub freshLink : Link
-freshLink = record { number = 0; kind = 0; originator = 0; attached = 0; service = 0; tx = 0; state = 0; server = 0; first = 0; outcome = 0; ending = 0; sender = 0; granting = 0; disconnected = 0; unread = replicate 4 0; filled = 0 }
+freshLink = record {
+  number = 0;
+  kind = 0;
+  originator = 0;
+  attached = 0;
+  service = 0;
+  tx = 0;
+  state = 0;
+  server = 0;
+  first = 0;
+  outcome = 0;
+  ending = 0;
+  sender = 0;
+  granting = 0;
+  disconnected = 0;
+  unread = replicate 4 0;
+  filled = 0;
+}
 
 -- the room for links, empty
 unfoldable pub blanks : List Link
@@ -97,23 +114,109 @@ linkOf m n = getD (live m) (placeOf m n) freshLink
 -- ---- what all changes are made of: each writes the fields of one topic out, and the others stay
 -- a party: what it has set; the transaction and the link that it works for
 abbrev pub withSettings : Party → (opened control timeout services : ℕ) → Party
-withSettings q opened control timeout services = record { opened = opened; control = control; timeout = timeout; services = services; owned = q .owned; deadline = q .deadline; rollbackonly = q .rollbackonly; served = q .served }
+withSettings q opened control timeout services = record {
+  opened = opened;
+  control = control;
+  timeout = timeout;
+  services = services;
+  owned = q .owned;
+  deadline = q .deadline;
+  rollbackonly = q .rollbackonly;
+  served = q .served;
+}
 
 abbrev pub withWork : Party → (owned deadline rollbackonly served : ℕ) → Party
-withWork q owned deadline rollbackonly served = record { opened = q .opened; control = q .control; timeout = q .timeout; services = q .services; owned = owned; deadline = deadline; rollbackonly = rollbackonly; served = served }
+withWork q owned deadline rollbackonly served = record {
+  opened = q .opened;
+  control = q .control;
+  timeout = q .timeout;
+  services = q .services;
+  owned = owned;
+  deadline = deadline;
+  rollbackonly = rollbackonly;
+  served = served;
+}
 
 -- a link: what it is made with; how far its service is; its ends; who may send, and what is unread
 abbrev pub withOrigin : Link → (number kind originator service tx first : ℕ) → Link
-withOrigin l number kind originator service tx first = record { number = number; kind = kind; originator = originator; attached = l .attached; service = service; tx = tx; state = l .state; server = l .server; first = first; outcome = l .outcome; ending = l .ending; sender = l .sender; granting = l .granting; disconnected = l .disconnected; unread = l .unread; filled = l .filled }
+withOrigin l number kind originator service tx first = record {
+  number = number;
+  kind = kind;
+  originator = originator;
+  attached = l .attached;
+  service = service;
+  tx = tx;
+  state = l .state;
+  server = l .server;
+  first = first;
+  outcome = l .outcome;
+  ending = l .ending;
+  sender = l .sender;
+  granting = l .granting;
+  disconnected = l .disconnected;
+  unread = l .unread;
+  filled = l .filled;
+}
 
 abbrev pub withProgress : Link → (state server outcome ending : ℕ) → Link
-withProgress l state server outcome ending = record { number = l .number; kind = l .kind; originator = l .originator; attached = l .attached; service = l .service; tx = l .tx; state = state; server = server; first = l .first; outcome = outcome; ending = ending; sender = l .sender; granting = l .granting; disconnected = l .disconnected; unread = l .unread; filled = l .filled }
+withProgress l state server outcome ending = record {
+  number = l .number;
+  kind = l .kind;
+  originator = l .originator;
+  attached = l .attached;
+  service = l .service;
+  tx = l .tx;
+  state = state;
+  server = server;
+  first = l .first;
+  outcome = outcome;
+  ending = ending;
+  sender = l .sender;
+  granting = l .granting;
+  disconnected = l .disconnected;
+  unread = l .unread;
+  filled = l .filled;
+}
 
 abbrev pub withEnds : Link → (attached disconnected : ℕ) → Link
-withEnds l attached disconnected = record { number = l .number; kind = l .kind; originator = l .originator; attached = attached; service = l .service; tx = l .tx; state = l .state; server = l .server; first = l .first; outcome = l .outcome; ending = l .ending; sender = l .sender; granting = l .granting; disconnected = disconnected; unread = l .unread; filled = l .filled }
+withEnds l attached disconnected = record {
+  number = l .number;
+  kind = l .kind;
+  originator = l .originator;
+  attached = attached;
+  service = l .service;
+  tx = l .tx;
+  state = l .state;
+  server = l .server;
+  first = l .first;
+  outcome = l .outcome;
+  ending = l .ending;
+  sender = l .sender;
+  granting = l .granting;
+  disconnected = disconnected;
+  unread = l .unread;
+  filled = l .filled;
+}
 
 abbrev pub withUnread : Link → (sender granting : ℕ) → List ℕ → (filled : ℕ) → Link
-withUnread l sender granting unread filled = record { number = l .number; kind = l .kind; originator = l .originator; attached = l .attached; service = l .service; tx = l .tx; state = l .state; server = l .server; first = l .first; outcome = l .outcome; ending = l .ending; sender = sender; granting = granting; disconnected = l .disconnected; unread = unread; filled = filled }
+withUnread l sender granting unread filled = record {
+  number = l .number;
+  kind = l .kind;
+  originator = l .originator;
+  attached = l .attached;
+  service = l .service;
+  tx = l .tx;
+  state = l .state;
+  server = l .server;
+  first = l .first;
+  outcome = l .outcome;
+  ending = l .ending;
+  sender = sender;
+  granting = granting;
+  disconnected = l .disconnected;
+  unread = unread;
+  filled = filled;
+}
 
 -- a monitor: its numbers; its parties and links
 abbrev pub withNumbers : Monitor → (clock lastlink lasttx : ℕ) → Monitor

@@ -7,7 +7,9 @@ use lib.Dec.{eqb}
 use Rattle.rules.specs.Choice.{pick}
 use Rattle.rules.specs.Codes.{badArgument, notAllowedNow, tpevSvcErr, tpevSvcFail, tpevSvcSucc, tpSuccess, tpFail}
 use Rattle.rules.specs.Lists.{anyOf, collect}
-use Rattle.rules.specs.Record.{freshParty, isConversation, isAttached, isWorking, isReturned, isServerFree, ownEnd, party, live, linkOf, serving, closed, dropped, disconnectedLink, returned, withParties, withParty, rebuilt, changed, removed, valued, ask}
+use Rattle.rules.specs.Record.{freshParty, isConversation, isAttached, isWorking, isReturned, isServerFree, ownEnd, party, live, linkOf}
+use Rattle.rules.specs.Record.{serving, closed, dropped, disconnectedLink, returned, withParties, withParty, rebuilt, changed, removed, valued}
+use Rattle.rules.specs.Record.{ask}
 use Rattle.rules.specs.Transaction.{rollbackOnlyIn, rollbackOnlyTx, endTx}
 use Rattle.rules.specs.Conversations.{originatorEnd}
 use Rattle.rules.specs.declared.Ruled.{Ruled}

@@ -57,7 +57,11 @@ abbrev pub advanced : Monitor → ℕ → Monitor
 advanced m t = withClock m (laterOf (m .clock) t)
 
 abbrev pub answered : Ruled → ℕ → Stepped
-answered r t = record { monitor = r .monitor; answer = record { code = r .code; value = r .value; event = r .event; token = r .token; service = r .service; tx = t } }
+answered r t =
+    record {
+      monitor = r .monitor;
+      answer = record { code = r .code; value = r .value; event = r .event; token = r .token; service = r .service; tx = t };
+    }
 
 -- what a rule gives, with the caller's T afterwards
 unfoldable pub answeredTo : Ruled → ℕ → Stepped

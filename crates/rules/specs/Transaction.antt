@@ -7,7 +7,8 @@ use lib.ListN.{set, getD}
 use lib.Dec.{eqb, ltb, leb}
 use Rattle.rules.specs.Choice.{pick, same}
 use Rattle.rules.specs.Lists.{firstOf, anyOf, collect}
-use Rattle.rules.specs.Record.{freshParty, isRollbackOnly, isRequest, isAttached, isWorking, isNotified, owns, party, live, linkOf, owning, owningNone, rollbackOnly, closed, disconnectedLink, withLastTx, withParties, withParty, rebuilt}
+use Rattle.rules.specs.Record.{freshParty, isRollbackOnly, isRequest, isAttached, isWorking, isNotified, owns, party, live, linkOf, owning}
+use Rattle.rules.specs.Record.{owningNone, rollbackOnly, closed, disconnectedLink, withLastTx, withParties, withParty, rebuilt}
 use Rattle.rules.specs.declared.Party.{Party}
 use Rattle.rules.specs.declared.Link.{Link}
 use Rattle.rules.specs.declared.Monitor.{Monitor}

@@ -12,8 +12,10 @@ use Rattle.rules.specs.Choice.{pick, same}
 use Rattle.rules.specs.declared.Call.{Call}
 use Rattle.rules.specs.declared.Link.{Link}
 use Rattle.rules.specs.declared.Party.{Party}
-use Rattle.rules.specs.History.{Event, some, ofKind, by, answeredBy, withValue, withEvent, accepted, linkOn, on, endsIn, upToStart, startedBy, shownOwner, sameCode, makes, isLinkOf, serves, failedEnd, disconnect, finishes}
-use Rattle.rules.proofs.Logic.{test, same-refl, same-ne, and-r, and-false, or-true, or-false, pick-yes, pick-no, Nz, and-yes, and-assoc, and-comm, cond-same, cond-of, cond-and, cond-not}
+use Rattle.rules.specs.History.{Event, some, ofKind, by, answeredBy, withValue, withEvent, accepted, linkOn, on, endsIn, upToStart}
+use Rattle.rules.specs.History.{startedBy, shownOwner, sameCode, makes, isLinkOf, serves, failedEnd, disconnect, finishes}
+use Rattle.rules.proofs.Logic.{test, same-refl, same-ne, and-r, and-false, or-true, or-false, pick-yes, pick-no}
+use Rattle.rules.proofs.Logic.{Nz, and-yes, and-assoc, and-comm, cond-same, cond-of, cond-and, cond-not}
 use Rattle.rules.proofs.Codes.{of-code}
 use Rattle.rules.proofs.History.Tells.{Tell, nothing, sent, given, made, taken, finished, disconnected, left, tellOf, endingEvent, Valueless, canStart}
 use Rattle.rules.proofs.History.Shows.{Shows, showsOf, Next, servesAfter, isMade, isFinished, failsNow, disconnectsNow}
@@ -103,11 +105,17 @@ serves-tells e f h q = ofIt e 14
 finishes-tells : (e : Event) (d o : ℕ) → finishes d o e ≡ isFinished (tellOf e) d && (ofKind 15 e || by o e)
 unfolding tellOf finishes ofKind on by same endingEvent linkOn accepted answeredBy withEvent
 finishes-tells e d o = ofIt e 15
-    (λ y. rw y (simp (cond-of (λ t. isFinished t d), cond-and, or-false, and-yes) (and-comm (on d e) (accepted e || (answeredBy (pos 30) e || answeredBy (pos 31) e)))))
+    (λ y.
+    rw y
+    (simp (cond-of (λ t. isFinished t d), cond-and, or-false, and-yes) (and-comm (on d e) (accepted e || (answeredBy (pos 30) e || answeredBy (pos 31) e)))))
     (λ n15. ofIt e 17
-    (λ y. rw y (simp (cond-of (λ t. isFinished t d), cond-and, cond-not) (unless (accepted e) (on d e) (by o e) (endingEvent e) (λ a. rw (zero-code (e .answer .code) a)))))
+    (λ y.
+    rw y
+    (simp (cond-of (λ t. isFinished t d), cond-and, cond-not) (unless (accepted e) (on d e) (by o e) (endingEvent e) (λ a. rw (zero-code (e .answer .code) a)))))
     (λ n17. ofIt e 18
-    (λ y. rw y (simp (cond-of (λ t. isFinished t d), cond-and, cond-not) (unless (answeredBy (pos 29) e && withEvent 32 e) (on d e) (by o e) (endingEvent e) given-first)))
+    (λ y.
+    rw y
+    (simp (cond-of (λ t. isFinished t d), cond-and, cond-not) (unless (answeredBy (pos 29) e && withEvent 32 e) (on d e) (by o e) (endingEvent e) given-first)))
     (λ n18. rw (n15, n17, n18) (simp (cond-of (λ t. isFinished t d), cond-same)))))
   where
     unless : (a l o x : Bool) → (a ≡ true → x ≡ false) → l && (o && x) ≡ (not a && (x && l)) && o
@@ -149,7 +157,8 @@ module _ (n : ℕ) (f g : ℕ → Bool) (alike : (d : ℕ) → d ≤ n → f d �
   pub serves-like : (h : List Event) → Bounds n h → (q : ℕ) → serves f h q ≡ serves g h q
   unfolding serves
   serves-like [] b q = refl
-  serves-like (e ∷ h) b q = serves-tells e f h q ∙ rw (serves-like h (b .1) q) (after-like (tellOf e) (same (e .call .party) q) (serves g h q) (b .0)) ∙ sym (serves-tells e g h q)
+  serves-like (e ∷ h) b q =
+      serves-tells e f h q ∙ rw (serves-like h (b .1) q) (after-like (tellOf e) (same (e .call .party) q) (serves g h q) (b .0)) ∙ sym (serves-tells e g h q)
 
   pub failed-like : (h : List Event) → Bounds n h → failedEnd f h ≡ failedEnd g h
   unfolding failedEnd
@@ -159,7 +168,8 @@ module _ (n : ℕ) (f g : ℕ → Bool) (alike : (d : ℕ) → d ≤ n → f d �
   pub disconnect-like : (h : List Event) → Bounds n h → disconnect f h ≡ disconnect g h
   unfolding disconnect some
   disconnect-like [] b = refl
-  disconnect-like (e ∷ h) b = rw (disc-tells e f, disc-tells e g, step (tellOf e) (b .0)) (ap (λ x. disconnectsNow (tellOf e) g || x) (disconnect-like h (b .1)))
+  disconnect-like (e ∷ h) b =
+      rw (disc-tells e f, disc-tells e g, step (tellOf e) (b .0)) (ap (λ x. disconnectsNow (tellOf e) g || x) (disconnect-like h (b .1)))
     where
       step : (t : Tell) → ToldUpTo n t → disconnectsNow t f ≡ disconnectsNow t g
       step (disconnected d) le = alike d le
@@ -229,7 +239,8 @@ module _ (n : ℕ) (h : List Event) (e : Event) (t : Tell) (bounds : Bounds n h)
       now : ofKind 19 e && (accepted e && isLinkOf (e ∷ h) u (linkOn e)) ≡ disconnectsNow t (λ d. (isMade t d && same (e .answer .tx) u) || isLinkOf h u d)
       now = disc-tells e (isLinkOf (e ∷ h) u) ∙ rw (tells, fun-ext (λ d. link-next d u z))
 
-  owner-next : (u q : ℕ) → shownOwner (e ∷ h) u q ≡ pick (some (endsIn u) h) (shownOwner h u q) ((same (e .answer .tx) u && canStart (e .call)) && same (e .call .party) q)
+  owner-next : (u q : ℕ)
+      → shownOwner (e ∷ h) u q ≡ pick (some (endsIn u) h) (shownOwner h u q) ((same (e .answer .tx) u && canStart (e .call)) && same (e .call .party) q)
   unfolding shownOwner upToStart startedBy endsIn by ofKind canStart same
   owner-next u q = test (some (endsIn u) h)
       (λ y. rw (y, pick-yes))

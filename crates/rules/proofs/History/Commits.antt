@@ -8,7 +8,9 @@ use lib.Dec.{eqb}
 use borrow.Author.Tests.{eqb-true, eq-eqb}
 use Rattle.rules.specs.Choice.{same}
 use Rattle.rules.specs.Record.{isAttached, isRollbackOnly}
-use Rattle.rules.specs.History.{Event, some, ofKind, by, withValue, past21, upToStart, shownOwner, latestTx, txAt, isOwnersCommit, committed, makes, isLinkOf, failedEnd, disconnect, deadlinePassed, finishes, unfinished, reasonAgainst, othersAtWork, commitRule, aloneRule}
+use Rattle.rules.specs.History.{Event, some, ofKind, by, withValue, past21, upToStart, shownOwner, latestTx, txAt}
+use Rattle.rules.specs.History.{isOwnersCommit, committed, makes, isLinkOf, failedEnd, disconnect, deadlinePassed}
+use Rattle.rules.specs.History.{finishes, unfinished, reasonAgainst, othersAtWork, commitRule, aloneRule}
 use Rattle.rules.specs.declared.Link.{Link}
 use Rattle.rules.specs.declared.Party.{Party}
 use Rattle.rules.proofs.Logic.{pick-true, pick-false, test, not-both, same-refl, same-true, and-l, and-r, and-true, or-true, not-true, beq-refl, Nz}
@@ -36,7 +38,8 @@ pub record Answered (P : ℕ → Party) (L : ℕ → Link) (h : List Event) (e :
 
 module _ {n m : ℕ} {P : ℕ → Party} {L : ℕ → Link} (h : List Event) (e : Event) (w : World n m P L (showsOf h)) where
   -- the caller of a commit by T's owner owns T
-  pub owns : latestTx h (e .call .party) ≡ txP P L (e .call .party) → Nz (txAt h e) → shownOwner h (txAt h e) (e .call .party) ≡ true → P (e .call .party) .owned ≡ txAt h e
+  pub owns : latestTx h (e .call .party) ≡ txP P L (e .call .party) → Nz (txAt h e) → shownOwner h (txAt h e) (e .call .party) ≡ true
+      → P (e .call .party) .owned ≡ txAt h e
   unfolding txP showsOf
   owns latest z own = test (same (P (e .call .party) .owned) 0)
       (λ y. let i : L (P (e .call .party) .served) .tx ≡ txAt h e = sym (pick-true _ _ _ y) ∙ sym latest in
@@ -52,7 +55,8 @@ module _ {n m : ℕ} {P : ℕ → Party} {L : ℕ → Link} (h : List Event) (e 
     marked = w .markIs (e .call .party) nz ∙ rw owned
 
     -- where T is not rollback-only, a link of it that is not finished has its end open
-    keeps-open : isRollbackOnly (P (e .call .party)) ≡ false → (d o : ℕ) → showsOf h .madeBy d (txAt h e) o ≡ true → showsOf h .finished d o ≡ false → a .openEnd ≡ true
+    keeps-open : isRollbackOnly (P (e .call .party)) ≡ false → (d o : ℕ) → showsOf h .madeBy d (txAt h e) o ≡ true → showsOf h .finished d o ≡ false
+        → a .openEnd ≡ true
     keeps-open un d o mk fi = let op = w .kept d o (e .call .party) nz (rw owned mk) un fi in
         a .opened d op (same-true _ _ (and-l _ _ (sym (w .maker d (w .thereOpen d op) (txAt h e) o z) ∙ mk)))
 
@@ -80,7 +84,8 @@ module _ {n m : ℕ} {P : ℕ → Party} {L : ℕ → Link} (h : List Event) (e 
     exactly : committed e ≡ not (reasonAgainst h e (txAt h e))
     unfolding reasonAgainst
     exactly = a .code ∙ rw (marked, a .lateIs)
-        (law (failedEnd (isLinkOf h (txAt h e)) h) (disconnect (isLinkOf h (txAt h e)) h) (deadlinePassed (upToStart (txAt h e) h) (e ∷ h)) (a .openEnd) (unfinished h (txAt h e))
+        (law (failedEnd (isLinkOf h (txAt h e)) h) (disconnect (isLinkOf h (txAt h e)) h)
+        (deadlinePassed (upToStart (txAt h e) h) (e ∷ h)) (a .openEnd) (unfinished h (txAt h e))
         (λ un. same-tests _ _ open-unfinished (unfinished-open (marked ∙ un))))
       where
         same-tests : (x y : Bool) → (x ≡ true → y ≡ true) → (y ≡ true → x ≡ true) → x ≡ y

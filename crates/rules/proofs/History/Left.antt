@@ -52,7 +52,8 @@ left-number (shut e) z = (e .number′, e .tx′, e .originator′)
 left-number (back e) z = (e .number′, e .tx′, e .originator′)
 
 -- what one with the originator's end open keeps
-pub left-open : {l l′ : Link} → Left l l′ → isAttached l′ ≡ true → (isAttached l ≡ true) × (l′ .originator ≡ l .originator) × (l′ .tx ≡ l .tx) × (l′ .number ≡ l .number)
+pub left-open : {l l′ : Link} → Left l l′ → isAttached l′ ≡ true
+    → (isAttached l ≡ true) × (l′ .originator ≡ l .originator) × (l′ .tx ≡ l .tx) × (l′ .number ≡ l .number)
 unfolding noLink
 left-open (alike e s) z = (rw (e .attached′) at z, e .originator′, e .tx′, e .number′)
 left-open (gone e) z = not-both (rw e at z) refl
@@ -70,7 +71,8 @@ pub left-live : {l l′ : Link} → Left l l′ → isAttached l′ || isWaiting
 left-live {l} {l′} x o = or-cases (isAttached l′) (isWaiting l′) o (λ z. rw (left-open x z .0)) (λ z. rw (left-waiting x z, or-true))
 
 -- what a working one keeps
-pub left-working : {l l′ : Link} → Left l l′ → isWorking l′ ≡ true → (isWorking l ≡ true) × (l′ .number ≡ l .number) × (l′ .server ≡ l .server) × (l′ .tx ≡ l .tx)
+pub left-working : {l l′ : Link} → Left l l′ → isWorking l′ ≡ true
+    → (isWorking l ≡ true) × (l′ .number ≡ l .number) × (l′ .server ≡ l .server) × (l′ .tx ≡ l .tx)
 unfolding noLink
 left-working (alike e s) z = (rw (e .state′) at z, e .number′, e .server′, e .tx′)
 left-working (gone e) z = not-both (rw e at z) refl

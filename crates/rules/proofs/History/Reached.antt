@@ -12,7 +12,8 @@ use Rattle.rules.specs.Transaction.{servedTx, txOf, late, isOwner, isOpe
 use Rattle.rules.specs.Lists.{anyOf}
 use Rattle.rules.specs.Tx.{commitOf}
 use Rattle.rules.specs.Step.{ruleOf, isKind, advanced, laterOf, answeredTo}
-use Rattle.rules.specs.History.{Event, ofKind, past21, txAt, latestTx, upToStart, greatestClock, deadlinePassed, committed, senderRule, commitRule, aloneRule, holds}
+use Rattle.rules.specs.History.{Event, ofKind, past21, txAt, latestTx, upToStart, greatestClock, deadlinePassed}
+use Rattle.rules.specs.History.{committed, senderRule, commitRule, aloneRule, holds}
 use Rattle.rules.specs.declared.Call.{Call}
 use Rattle.rules.specs.declared.Monitor.{Monitor}
 use Rattle.rules.specs.declared.Ruled.{Ruled}
@@ -108,7 +109,8 @@ module _ (m : Monitor) (h : List Event) (i : Reached m h) (c : Call) (kind : isK
 
   times₁ : Times (r .monitor) (e ∷ h)
   unfolding e
-  times₁ = times m₀ h c r fine₀ moved (unfold e in clock₁) latest₀ (unfold m₀ in i .times .timeout) (unfold m₀ in i .times .deadline) (unfold m₀ in i .times .opened)
+  times₁ =
+      times m₀ h c r fine₀ moved (unfold e in clock₁) latest₀ (unfold m₀ in i .times .timeout) (unfold m₀ in i .times .deadline) (unfold m₀ in i .times .opened)
       (unfold showsOf in world₀ .seenLow) (unfold showsOf in world₀ .seenHigh (suc (m₀ .lasttx)) (omega arith)) (world₀ .below)
 
   -- ---- the commit rule
@@ -154,7 +156,8 @@ module _ (m : Monitor) (h : List Event) (i : Reached m h) (c : Call) (kind : isK
     late₂ : late (m₀ .clock) (party m₀ (c .party)) ≡ deadlinePassed (upToStart t h) (e ∷ h)
     late₂ = sym (rw o at (late₁ k nz))
 
-  answers : ofKind 4 e ≡ true → past21 e ≡ true → Nz (txAt h e) → party m₀ (e .call .party) .owned ≡ txAt h e → Answered (λ q. party m₀ q) (λ d. look d (live m₀)) h e
+  answers : ofKind 4 e ≡ true → past21 e ≡ true → Nz (txAt h e) → party m₀ (e .call .party) .owned ≡ txAt h e
+      → Answered (λ q. party m₀ q) (λ d. look d (live m₀)) h e
   answers k _ z o = let k′ : c .kind ≡ 4 = kind-4 k in let o′ : party m₀ (c .party) .owned ≡ txAt h e = own-tx o in
       record {
         late = late (m₀ .clock) (party m₀ (c .party));
@@ -171,7 +174,8 @@ module _ (m : Monitor) (h : List Event) (i : Reached m h) (c : Call) (kind : isK
       own-tx : party m₀ (e .call .party) .owned ≡ txAt h e → party m₀ (c .party) .owned ≡ txAt h e
       own-tx o = unfold e eventOf in o
 
-      own-code : (b : Bool) → committed e ≡ not (isRollbackOnly (party m₀ (c .party))) && b → committed e ≡ not (isRollbackOnly (party m₀ (e .call .party))) && b
+      own-code : (b : Bool) → committed e ≡ not (isRollbackOnly (party m₀ (c .party))) && b
+          → committed e ≡ not (isRollbackOnly (party m₀ (e .call .party))) && b
       own-code b x = unfold e eventOf in x
 
   rules₁ : (commitRule h e ≡ true) × (aloneRule h e ≡ true)

@@ -7,7 +7,8 @@ use Prim.Native.Nat.{ℕ}
 use lib.IntN.{pos}
 use borrow.Author.Tests.{eqb-true}
 use Rattle.rules.specs.Choice.{same}
-use Rattle.rules.specs.History.{Event, some, ofKind, by, answeredBy, withEvent, accepted, linkOn, on, flag2, endsIn, isSend, differentEnds, givenSendOnly, sendsApart, senderRule}
+use Rattle.rules.specs.History.{Event, some, ofKind, by, answeredBy, withEvent, accepted, linkOn, on, flag2}
+use Rattle.rules.specs.History.{endsIn, isSend, differentEnds, givenSendOnly, sendsApart, senderRule}
 use Rattle.rules.proofs.Logic.{test, not-both, and-false, or-l, or-r, or-true, not-true, and-yes}
 use Rattle.rules.proofs.History.Tells.{Tell, nothing, sent, given, made, taken, finished, disconnected, left, endingEvent, tellOf}
 
@@ -124,6 +125,8 @@ module _ (e : Event) (d : ℕ) where
   pub tells-given : ofKind 18 e && (on d e && (answeredBy (pos 29) e && withEvent 32 e)) ≡ givesAt (tellOf e) d
   unfolding on same
   tells-given = test (ofKind 18 e)
-      (λ k. rw (k, tell-18 e k) (test (answeredBy (pos 29) e && withEvent 32 e) (λ a. rw a (and-yes _)) (λ a. rw (a, and-false) (sym (ended (λ t. givesAt t d) gives-else e)))))
+      (λ k.
+      rw (k, tell-18 e k)
+      (test (answeredBy (pos 29) e && withEvent 32 e) (λ a. rw a (and-yes _)) (λ a. rw (a, and-false) (sym (ended (λ t. givesAt t d) gives-else e)))))
       (λ k. rw k (sym (elsewhere (λ t. givesAt t d) gives-else e
       (λ _. choice (λ t. givesAt t d) gives-else (accepted e) _ _ (λ _. refl) (ended (λ t. givesAt t d) gives-else e)) (λ y. not-both y k))))

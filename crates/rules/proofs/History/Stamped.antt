@@ -82,7 +82,17 @@ agrees {m} {P} {L} w a = record {
 -- ---- an event whose answer ends in the caller's transaction, which is not new
 -- what v′ shows, with the owners that v shows
 abbrev pub unstamped : Shows → Shows → Shows
-unstamped v v′ = record { serves = v′ .serves; linkOf = v′ .linkOf; madeBy = v′ .madeBy; finished = v′ .finished; failed = v′ .failed; disc = v′ .disc; owner = v .owner; seen = v .seen }
+unstamped v v′ =
+    record {
+      serves = v′ .serves;
+      linkOf = v′ .linkOf;
+      madeBy = v′ .madeBy;
+      finished = v′ .finished;
+      failed = v′ .failed;
+      disc = v′ .disc;
+      owner = v .owner;
+      seen = v .seen;
+    }
 
 module _ {t : Tell} {p x : ℕ} {starts : Bool} {v v′ : Shows} (k : Next t p x starts v v′) where
   next-owner : (u q : ℕ) → Nz u → v .seen u ≡ true → v′ .owner u q ≡ v .owner u q

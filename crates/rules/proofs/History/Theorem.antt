@@ -14,7 +14,8 @@ use Rattle.rules.specs.Record.{freshParty, freshMonitor, party}
 use Rattle.rules.specs.Transaction.{servedTx, txOf}
 use Rattle.rules.specs.Step.{turnedDown, callOf, stepOf}
 use Rattle.rules.specs.Run.{callAt, placesOf, ranOf, answersOf, callsIn, Listed, listOf}
-use Rattle.rules.specs.History.{Event, accepted, unheard, past21, answeredBy, latestTx, greatestClock, shownTimeout, isOwnersCommit, commitRule, aloneRule, holds, firstCall, firstAnswer, thenCalls, thenList}
+use Rattle.rules.specs.History.{Event, accepted, unheard, past21, answeredBy, latestTx, greatestClock, shownTimeout, isOwnersCommit}
+use Rattle.rules.specs.History.{commitRule, aloneRule, holds, firstCall, firstAnswer, thenCalls, thenList}
 use Rattle.rules.specs.Demand.{Entry, single, lent, thenLent, thenEntries, Demand3}
 use Rattle.rules.specs.declared.Answer.{Answer}
 use Rattle.rules.specs.declared.Call.{Call}
@@ -144,7 +145,8 @@ reached-calls (suc n) m h cs rest i =
     reached-calls n (callOf m (callAt cs) .monitor) (eventBy (callAt cs) (callOf m (callAt cs) .answer) ∷ h) (drop 6 cs) rest (reached-call m h i (callAt cs))
 
 -- ---- entries
-pub reached-lent : (m : Monitor) (h : List Event) (cs : List ℕ) (out : List ℤ) → Reached m h → Reached (listOf m cs out .monitor) (thenLent cs (listOf m cs out) h)
+pub reached-lent : (m : Monitor) (h : List Event) (cs : List ℕ) (out : List ℤ) → Reached m h
+    → Reached (listOf m cs out .monitor) (thenLent cs (listOf m cs out) h)
 unfolding listOf
 reached-lent m h cs out i = byTest (λ (l : Listed). Reached (l .monitor) (thenLent cs l h))
     (λ _. byTest (λ (l : Listed). Reached (l .monitor) (thenLent cs l h))

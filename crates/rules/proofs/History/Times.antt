@@ -11,7 +11,8 @@ use Rattle.rules.specs.Choice.{same}
 use Rattle.rules.specs.Record.{isOpened, isWorking, isWaiting, party, live}
 use Rattle.rules.specs.Transaction.{txOf, late, deadlineOf}
 use Rattle.rules.specs.Step.{laterOf, answeredTo}
-use Rattle.rules.specs.History.{Event, some, ofKind, by, accepted, past21, endsIn, upToStart, latestTx, greatestClock, shownTimeout, timeoutAtStart, due, deadlinePassed}
+use Rattle.rules.specs.History.{Event, some, ofKind, by, accepted, past21, endsIn, upToStart, latestTx}
+use Rattle.rules.specs.History.{greatestClock, shownTimeout, timeoutAtStart, due, deadlinePassed}
 use Rattle.rules.specs.declared.Call.{Call}
 use Rattle.rules.specs.declared.Link.{Link}
 use Rattle.rules.specs.declared.Monitor.{Monitor}
@@ -39,12 +40,14 @@ pub record Times (m : Monitor) (h : List Event) : Type 0 where
 module _ (c : Call) (p n m : ℕ) (P : ℕ → Party) (L : ℕ → Link) (n′ m′ : ℕ) (P′ : ℕ → Party) (L′ : ℕ → Link) (q : ℕ)
     (works : isWorking (L (P q .served)) ≡ true) (low : P q .served ≤ n) (nz : Nz (P q .served)) (stays : P′ q .served ≡ P q .served) where
   waits-not : (d : ℕ) → isWaiting (L d) ≡ true → same (P q .served) d ≡ false
-  waits-not d w = same-ne _ _ (λ e. let a = eqb-true (L d .state) 0 w in let b = eqb-true (L (P q .served) .state) 1 works in let c = ap (λ x. L x .state) e in omega arith)
+  waits-not d w =
+      same-ne _ _ (λ e. let a = eqb-true (L d .state) 0 w in let b = eqb-true (L (P q .served) .state) 1 works in let c = ap (λ x. L x .state) e in omega arith)
 
   rests-not : (d : ℕ) → isWorking (L d) ≡ false → same (P q .served) d ≡ false
   rests-not d w = same-ne _ _ (λ e. not-both {X = ⊥} works (rw e w))
 
-  faded : (d : ℕ) → Left (L d) (L′ d) → (isWorking (L d) ≡ true → isWorking (L′ d) ≡ true) → ((e : ℕ) → same e d ≡ false → L′ e ≡ L e) → L′ (P q .served) .tx ≡ L (P q .served) .tx
+  faded : (d : ℕ) → Left (L d) (L′ d) → (isWorking (L d) ≡ true → isWorking (L′ d) ≡ true) → ((e : ℕ) → same e d ≡ false → L′ e ≡ L e)
+      → L′ (P q .served) .tx ≡ L (P q .served) .tx
   faded d f w o = left-working (fades d o f _) (fades-works d o w _ works) .3
 
   served-tx : {t : Tell} → Move c p n m P L n′ m′ P′ L′ t → L′ (P q .served) .tx ≡ L (P q .served) .tx
@@ -95,7 +98,8 @@ module _ (m : Monitor) (h : List Event) (c : Call) (r : Ruled) (f : Fine m) (k :
 
   -- the others' transactions
   tx-other : (q : ℕ) → same q (c .party) ≡ false → txOf (r .monitor) q ≡ txOf m q
-  tx-other q n = txOf-txP (r .monitor) (k .frame) q ∙ txP-keeps _ _ _ _ q (k .others q n .owned′) (k .others q n .served′) served ∙ sym (txOf-txP m (f .frame) q)
+  tx-other q n =
+      txOf-txP (r .monitor) (k .frame) q ∙ txP-keeps _ _ _ _ q (k .others q n .owned′) (k .others q n .served′) served ∙ sym (txOf-txP m (f .frame) q)
     where
       zero-tx : (d : ℕ) → same d 0 ≡ true → look d (live (r .monitor)) .tx ≡ look d (live m) .tx
       zero-tx d z = let i = same-true d 0 z in rw (i, look-zero m (f .frame), look-zero (r .monitor) (k .frame))
@@ -125,12 +129,15 @@ module _ (m : Monitor) (h : List Event) (c : Call) (r : Ruled) (f : Fine m) (k :
       (λ y. let i : q ≡ c .party = same-true _ _ y in rw (i, own, tim (c .party)) (sym after))
       (λ y. rw (other q y) (tim q ∙ sym (k .others q y .timeout′)))
     where
-      after : party (r .monitor) (c .party) .timeout ≡ cond (accepted e && ofKind 9 e) (e .call .a) (cond (accepted e && (ofKind 2 e || ofKind 21 e)) 0 (party m (c .party) .timeout))
+      after : party (r .monitor) (c .party) .timeout
+          ≡ cond (accepted e && ofKind 9 e) (e .call .a) (cond (accepted e && (ofKind 2 e || ofKind 21 e)) 0 (party m (c .party) .timeout))
       after = unfold timeAfter e in k .timeout′
 
   deadline-old : (q : ℕ) (y : Party) → y .owned ≡ party m q .owned → y .deadline ≡ party m q .deadline → Nz (y .owned)
       → y .deadline ≡ deadlineOf (greatestClock (upToStart (y .owned) (e ∷ h))) (timeoutAtStart (upToStart (y .owned) (e ∷ h)))
-  deadline-old q y a b z = let z′ : Nz (party m q .owned) = rw a at z in rw (a, started-before (party m q .owned) e h (seen (party m q .owned) z′ (below q))) (b ∙ dead q z′)
+  deadline-old q y a b z =
+      let z′ : Nz (party m q .owned) = rw a at z in
+      rw (a, started-before (party m q .owned) e h (seen (party m q .owned) z′ (below q))) (b ∙ dead q z′)
 
   new-start : party (r .monitor) (c .party) .owned ≡ suc (m .lasttx) → upToStart (suc (m .lasttx)) (e ∷ h) ≡ e ∷ h
   unfolding upToStart
@@ -147,7 +154,8 @@ module _ (m : Monitor) (h : List Event) (c : Call) (r : Ruled) (f : Fine m) (k :
 
   deadline-own : Own m (party m (c .party)) (party (r .monitor) (c .party)) → Nz (party (r .monitor) (c .party) .owned)
       → party (r .monitor) (c .party) .deadline
-      ≡ deadlineOf (greatestClock (upToStart (party (r .monitor) (c .party) .owned) (e ∷ h))) (timeoutAtStart (upToStart (party (r .monitor) (c .party) .owned) (e ∷ h)))
+      ≡ deadlineOf (greatestClock (upToStart (party (r .monitor) (c .party) .owned) (e ∷ h)))
+      (timeoutAtStart (upToStart (party (r .monitor) (c .party) .owned) (e ∷ h)))
   deadline-own (keeps a b) z = deadline-old (c .party) (party (r .monitor) (c .party)) a b z
   deadline-own (loses a) z = zero-nz a z
   deadline-own (begins a b) z = b ∙ rw (a, new-start a, now, start)
@@ -173,7 +181,8 @@ module _ (m : Monitor) (h : List Event) (c : Call) (r : Ruled) (f : Fine m) (k :
   }
 
 -- ---- the clock of a call past question 21
-pub clock-next : (h : List Event) (c : Call) (r : Ruled) (clock : ℕ) → greatestClock h ≡ clock → past21 (eventOf c r) ≡ true → greatestClock (eventOf c r ∷ h) ≡ laterOf clock (c .clock)
+pub clock-next : (h : List Event) (c : Call) (r : Ruled) (clock : ℕ) → greatestClock h ≡ clock → past21 (eventOf c r) ≡ true
+    → greatestClock (eventOf c r ∷ h) ≡ laterOf clock (c .clock)
 clock-next h c r clock q p = heard (eventOf c r) p ∙ ap (λ x. max x (eventOf c r .call .clock)) q ∙ called
   where
     heard : (x : Event) → past21 x ≡ true → greatestClock (x ∷ h) ≡ max (greatestClock h) (x .call .clock)

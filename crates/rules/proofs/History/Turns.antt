@@ -37,10 +37,12 @@ module _ (h : List Event) (e : Event) where
   unfolding anySent some
   any-next d = rw (tells-send e d)
 
-  barred-next : (q d : ℕ) → barred (e ∷ h) q d ≡ (sendsAt (tellOf e) d && not (same (e .call .party) q)) || (not (givesAt (tellOf e) d && same (e .call .party) q) && barred h q d)
+  barred-next : (q d : ℕ)
+      → barred (e ∷ h) q d ≡ (sendsAt (tellOf e) d && not (same (e .call .party) q)) || (not (givesAt (tellOf e) d && same (e .call .party) q) && barred h q d)
   unfolding barred givenSendOnly by same
   barred-next q d = rw (← tells-send e d, ← tells-given e d)
-      (swap (isSend e) (on d e) (not (eqb (e .call .party) q)) (eqb (e .call .party) q) (ofKind 18 e && (on d e && (answeredBy (pos 29) e && withEvent 32 e))) (barred h q d))
+      (swap (isSend e) (on d e) (not (eqb (e .call .party) q)) (eqb (e .call .party) q)
+      (ofKind 18 e && (on d e && (answeredBy (pos 29) e && withEvent 32 e))) (barred h q d))
     where
       swap : (s o n m g b : Bool) → (s && (o && n)) || (not (m && g) && b) ≡ ((s && o) && n) || (not (g && m) && b)
       swap true o n m g b = rw (and-comm m g)
@@ -66,12 +68,15 @@ module _ (h : List Event) (e : Event) where
       (λ x. pick-false _ _ _ x ∙ bar-keep (l .originator) d s (sym (pick-false _ _ _ x) ∙ t))
 
 -- ---- what is left of a link has the same turn
-pub left-turn : (a : Bool) (f : ℕ → Bool) (l l′ : Link) → Left l l′ → (isConversation l ≡ true → turnBarred a f l ≡ false) → isConversation l′ ≡ true → turnBarred a f l′ ≡ false
+pub left-turn : (a : Bool) (f : ℕ → Bool) (l l′ : Link) → Left l l′ → (isConversation l ≡ true → turnBarred a f l ≡ false) → isConversation l′ ≡ true
+    → turnBarred a f l′ ≡ false
 unfolding turnBarred
 left-turn a f l l′ (alike k s) t c = rw (s, k .state′, k .server′, k .originator′) (t (rw (k .kind′) at c))
 left-turn a f l l′ (gone k) t c = not-both (rw k at c) (unfold noLink in refl)
 left-turn a f l l′ (shut k) t c = rw (k .sender′, k .state′, k .server′, k .originator′) (t (rw (k .kind′) at c))
-left-turn a f l l′ (back k) t c = let w = eqb-true (l .state) 1 (k .worked) in rw (k .sender′, k .state′, k .server′, k .originator′) (rw w at (t (rw (k .kind′) at c)))
+left-turn a f l l′ (back k) t c =
+    let w = eqb-true (l .state) 1 (k .worked) in
+    rw (k .sender′, k .state′, k .server′, k .originator′) (rw w at (t (rw (k .kind′) at c)))
 
 -- where nothing was sent nobody is barred
 free : (a : Bool) (f : ℕ → Bool) (l : Link) → a ≡ false → ((q : ℕ) → f q ≡ false) → turnBarred a f l ≡ false
@@ -110,7 +115,8 @@ module _ (c : Call) (p n m : ℕ) (P : ℕ → Party) (L : ℕ → Link) (n′ m
   quietly : {t : Tell} → tellOf e ≡ t → ((d : ℕ) → sendsAt t d ≡ false) → (d : ℕ) → sendsAt (tellOf e) d ≡ false
   quietly q s d = rw q (s d)
 
-  like-turn : (x : ℕ) → Like (L x) (L′ x) → L′ x .sender ≡ L x .sender → isConversation (L′ x) ≡ true → turnBarred (anySent h x) (λ q. barred h q x) (L′ x) ≡ false
+  like-turn : (x : ℕ) → Like (L x) (L′ x) → L′ x .sender ≡ L x .sender → isConversation (L′ x) ≡ true
+      → turnBarred (anySent h x) (λ q. barred h q x) (L′ x) ≡ false
   like-turn x k s = left-turn _ _ (L x) (L′ x) (alike k s) (i .calm x)
 
   -- the sender is not barred
@@ -146,7 +152,10 @@ module _ (c : Call) (p n m : ℕ) (P : ℕ → Party) (L : ℕ → Link) (n′ m
   -- nothing was sent on a new link
   made-turns : (x : ℕ) → n′ ≡ suc n → ((d : ℕ) → sendsAt (tellOf e) d ≡ false) → Makes P L P′ L′ p (suc n) x → Turns n′ L′ (e ∷ h)
   made-turns x k q s = still n L h e i n′ L′ (omega arith) q (λ d. test (same d (suc n))
-      (λ y z. let r : d ≡ suc n = same-true _ _ y in let none = i .unsent d (omega arith) in free (anySent h d) (λ q. barred h q d) (L′ d) none (λ q. i .fewer q d none))
+      (λ y z.
+      let r : d ≡ suc n = same-true _ _ y in
+      let none = i .unsent d (omega arith) in
+      free (anySent h d) (λ q. barred h q d) (L′ d) none (λ q. i .fewer q d none))
       (λ y. rw (s .others d y) (i .calm d)))
 
   -- a waiting link's server-to-be has heard of no send
@@ -170,7 +179,8 @@ module _ (c : Call) (p n m : ℕ) (P : ℕ → Party) (L : ℕ → Link) (n′ m
   turns q (Moves.leaves k bad s _) = lost n L h e i n′ L′ (omega (arith, k .link)) (quietly q (λ _. refl)) (s .less)
   turns q (Moves.ends k s) = lost n L h e i n′ L′ (omega (arith, k .link)) (quietly q (λ _. refl)) (s .less)
   turns q (Moves.begins a b _ _ s) = still n L h e i n′ L′ (omega (arith, a)) (quietly q (λ _. refl)) (λ d. rw (s .links′ d) (i .calm d))
-  turns q (Moves.renews a b _ Pₑ Lₑ s r) = still n L h e i n′ L′ (omega (arith, a)) (quietly q (λ _. refl)) (λ d. rw (r .links′ d) (left-turn _ _ (L d) (Lₑ d) (s .less d) (i .calm d)))
+  turns q (Moves.renews a b _ Pₑ Lₑ s r) =
+      still n L h e i n′ L′ (omega (arith, a)) (quietly q (λ _. refl)) (λ d. rw (r .links′ d) (left-turn _ _ (L d) (Lₑ d) (s .less d) (i .calm d)))
   turns q (Moves.makes a b x _ s) = made-turns x a (quietly q (λ _. refl)) s
   turns q (Moves.makesFree a b s) = made-turns 0 a (quietly q (λ _. refl)) s
   turns q (Moves.takes k d s) = taken-turns d (k .link) q s
@@ -207,4 +217,9 @@ silent-rule h e q = sender-rule h e (λ s. unfold on in not-both (rw (s, eq-eqb 
 
 pub no-turns : (n : ℕ) (L : ℕ → Link) → Turns n L []
 unfolding anySent barred some turnBarred
-no-turns n L = record { unsent = λ _ _. refl; fewer = λ _ _ _. refl; calm = λ d _. byTest (λ x. x ≡ false) (λ _. byTest (λ x. x ≡ false) (λ _. refl) (λ _. refl)) (λ _. refl) }
+no-turns n L =
+    record {
+      unsent = λ _ _. refl;
+      fewer = λ _ _ _. refl;
+      calm = λ d _. byTest (λ x. x ≡ false) (λ _. byTest (λ x. x ≡ false) (λ _. refl) (λ _. refl)) (λ _. refl);
+    }

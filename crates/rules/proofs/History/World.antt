@@ -33,7 +33,8 @@ pub record World (n m : ℕ) (P : ℕ → Party) (L : ℕ → Link) (v : Shows) 
   pub unfinished : (d : ℕ) → Nz (L d .number) → v .finished d (L d .originator) ≡ false
   pub live : (d : ℕ) → Nz (L d .tx) → isAttached (L d) || isWaiting (L d) ≡ true → (q : ℕ) × (P q .owned ≡ L d .tx)
   pub home : (d : ℕ) → Nz (L d .tx) → isAttached (L d) ≡ true → L d .tx ≡ txP P L (L d .originator)
-  pub kept : (d o q : ℕ) → Nz (P q .owned) → v .madeBy d (P q .owned) o ≡ true → isRollbackOnly (P q) ≡ false → v .finished d o ≡ false → isAttached (L d) ≡ true
+  pub kept : (d o q : ℕ) → Nz (P q .owned) → v .madeBy d (P q .owned) o ≡ true → isRollbackOnly (P q) ≡ false → v .finished d o ≡ false
+      → isAttached (L d) ≡ true
   -- what is there
   pub thereOpen : (d : ℕ) → isAttached (L d) ≡ true → Nz (L d .number)
   pub thereWork : (d : ℕ) → isWorking (L d) ≡ true → Nz (L d .number)

@@ -9,7 +9,8 @@ use Rattle.rules.specs.Choice.{same}
 use Rattle.rules.specs.Record.{isRollbackOnly, isAttached, isWaiting, isWorking, isReturned, working}
 use Rattle.rules.specs.declared.Link.{Link}
 use Rattle.rules.specs.declared.Party.{Party}
-use Rattle.rules.proofs.Logic.{pick-true, pick-false, test, not-both, same-refl, same-true, same-false, same-ne, and-l, and-false, or-true, or-false, Nz, byNumber, suc-nz, zero-nz, above-nz}
+use Rattle.rules.proofs.Logic.{pick-true, pick-false, test, not-both, same-refl, same-true, same-false, same-ne}
+use Rattle.rules.proofs.Logic.{and-l, and-false, or-true, or-false, Nz, byNumber, suc-nz, zero-nz, above-nz}
 use Rattle.rules.proofs.Fine.{txP}
 use Rattle.rules.proofs.History.Tells.{nothing, made, taken}
 use Rattle.rules.proofs.History.Shows.{Shows, Next}
@@ -22,7 +23,17 @@ use Rattle.rules.proofs.History.WorldLosses.{idle-keeps, ends-keeps}
 -- ---- a transaction begins
 -- what v shows, with the owners that v′ shows
 abbrev restamped : Shows → Shows → Shows
-restamped v v′ = record { serves = v .serves; linkOf = v .linkOf; madeBy = v .madeBy; finished = v .finished; failed = v .failed; disc = v .disc; owner = v′ .owner; seen = v′ .seen }
+restamped v v′ =
+    record {
+      serves = v .serves;
+      linkOf = v .linkOf;
+      madeBy = v .madeBy;
+      finished = v .finished;
+      failed = v .failed;
+      disc = v .disc;
+      owner = v′ .owner;
+      seen = v′ .seen;
+    }
 
 module _ {n m : ℕ} {P : ℕ → Party} {L : ℕ → Link} {v : Shows} (w : World n m P L v) {P′ : ℕ → Party} {L′ : ℕ → Link} {v′ : Shows} {p x : ℕ} {starts : Bool}
     (is : x ≡ txP P′ L′ p) (begun : starts ≡ true) (k : Next nothing p x starts v v′) (none : txP P L p ≡ 0) (h : Begins P L P′ L′ p (suc m)) where
@@ -79,7 +90,9 @@ module _ {n m : ℕ} {P : ℕ → Party} {L : ℕ → Link} {v : Shows} (w : Wor
     home = λ d z o. let hm = w .home d z o in test (same (L d .originator) p)
         (λ e. let r = same-true _ _ e in absurd (same-false _ _ z (hm ∙ ap (λ x. txP P L x) r ∙ none)))
         (λ e. hm ∙ sym (txP-keeps P P′ L L (L d .originator) (h .owned′ _ e) (h .served′ _) refl));
-    kept = λ d o. byNumber p (λ q. Nz (P′ q .owned) → v .madeBy d (P′ q .owned) o ≡ true → isRollbackOnly (P′ q) ≡ false → v .finished d o ≡ false → isAttached (L d) ≡ true)
+    kept =
+        λ d o. byNumber p
+        (λ q. Nz (P′ q .owned) → v .madeBy d (P′ q .owned) o ≡ true → isRollbackOnly (P′ q) ≡ false → v .finished d o ≡ false → isAttached (L d) ≡ true)
         (λ _ b _ _. not-both (rw (h .pOwned) at b) (w .newBy d (suc m) o (omega arith)))
         (λ q e z b un fi. w .kept d o q (rw (h .owned′ q e) at z) (rw (h .owned′ q e) at b) (rw (h .mark′ q e) at un) fi);
     thereOpen = w .thereOpen;
@@ -113,7 +126,8 @@ module _ {n m : ℕ} {P : ℕ → Party} {L : ℕ → Link} {v : Shows} (w : Wor
   }))
 
 -- the owned transaction ends, and a new one begins
-pub renews-world : {n m : ℕ} {P : ℕ → Party} {L : ℕ → Link} {v : Shows} (w : World n m P L v) {Pₑ P′ : ℕ → Party} {Lₑ L′ : ℕ → Link} {v′ : Shows} {p x : ℕ} {starts : Bool}
+pub renews-world : {n m : ℕ} {P : ℕ → Party} {L : ℕ → Link} {v : Shows} (w : World n m P L v)
+    {Pₑ P′ : ℕ → Party} {Lₑ L′ : ℕ → Link} {v′ : Shows} {p x : ℕ} {starts : Bool}
     → x ≡ txP P′ L′ p → starts ≡ true → Next nothing p x starts v v′ → Ends P L Pₑ Lₑ p → Begins Pₑ Lₑ P′ L′ p (suc m) → World n (suc m) P′ L′ v′
 unfolding txP
 renews-world {P} {L} w {p} is begun k e b = begins-world (ends-keeps w e) is begun k
@@ -125,10 +139,21 @@ renews-world {P} {L} w {p} is begun k e b = begins-world (ends-keeps w e) is beg
 -- ---- a link is made
 -- what v shows, with other links
 abbrev relinked : Shows → (ℕ → ℕ → Bool) → (ℕ → ℕ → ℕ → Bool) → Shows
-relinked v lo mb = record { serves = v .serves; linkOf = lo; madeBy = mb; finished = v .finished; failed = v .failed; disc = v .disc; owner = v .owner; seen = v .seen }
+relinked v lo mb =
+    record {
+      serves = v .serves;
+      linkOf = lo;
+      madeBy = mb;
+      finished = v .finished;
+      failed = v .failed;
+      disc = v .disc;
+      owner = v .owner;
+      seen = v .seen;
+    }
 
 -- p makes the link suc n of x
-module _ {n m : ℕ} {P : ℕ → Party} {L : ℕ → Link} {v : Shows} (w : World n m P L v) {P′ : ℕ → Party} {L′ : ℕ → Link} {p x : ℕ} (h : Makes P L P′ L′ p (suc n) x) where
+module _ {n m : ℕ} {P : ℕ → Party} {L : ℕ → Link} {v : Shows} (w : World n m P L v) {P′ : ℕ → Party} {L′ : ℕ → Link} {p x : ℕ}
+    (h : Makes P L P′ L′ p (suc n) x) where
   -- the parties are as they were
   wₚ : World n m P′ L v
   wₚ = idle-keeps w (record { owned′ = h .idle .owned′; served′ = h .idle .served′; mark′ = h .idle .mark′ }) (λ e. like-refl refl)
@@ -198,14 +223,22 @@ module _ {n m : ℕ} {P : ℕ → Party} {L : ℕ → Link} {v : Shows} (w : Wor
       home = byNumber (suc n) (λ d. Nz (L′ d .tx) → isAttached (L′ d) ≡ true → L′ d .tx ≡ txP P′ L′ (L′ d .originator))
           (λ z _. rw (make-tx _, h .tx, h .originator) (x-own (rw (h .tx) at z)))
           (λ e q z o. rw (make-tx _, h .others e q) (wₚ .home e (rw (h .others e q) at z) (rw (h .others e q) at o)));
-      kept = byNumber (suc n) (λ d. (o q : ℕ) → Nz (P′ q .owned) → mb d (P′ q .owned) o ≡ true → isRollbackOnly (P′ q) ≡ false → v .finished d o ≡ false → isAttached (L′ d) ≡ true)
+      kept =
+          byNumber (suc n)
+          (λ d. (o q : ℕ) → Nz (P′ q .owned) → mb d (P′ q .owned) o ≡ true → isRollbackOnly (P′ q) ≡ false → v .finished d o ≡ false → isAttached (L′ d) ≡ true)
           (λ o q z b _ _. let y : x ≡ P′ q .owned = same-true _ _ (and-l _ _ (sym (new-makers (P′ q .owned) o z) ∙ b)) in h .attached (rw y z))
           (λ e q o r z b un fi. rw (h .others e q) (wₚ .kept e o r z (sym (old-makers e (P′ r .owned) o z q) ∙ b) un fi));
-      thereOpen = byNumber (suc n) (λ d. isAttached (L′ d) ≡ true → Nz (L′ d .number)) (λ _. rw (h .number) (suc-nz n)) (λ e q. rw (h .others e q) (wₚ .thereOpen e));
-      thereWork = byNumber (suc n) (λ d. isWorking (L′ d) ≡ true → Nz (L′ d .number)) (λ _. rw (h .number) (suc-nz n)) (λ e q. rw (h .others e q) (wₚ .thereWork e));
+      thereOpen =
+          byNumber (suc n) (λ d. isAttached (L′ d) ≡ true → Nz (L′ d .number)) (λ _. rw (h .number) (suc-nz n)) (λ e q. rw (h .others e q) (wₚ .thereOpen e));
+      thereWork =
+          byNumber (suc n) (λ d. isWorking (L′ d) ≡ true → Nz (L′ d .number)) (λ _. rw (h .number) (suc-nz n)) (λ e q. rw (h .others e q) (wₚ .thereWork e));
       nought = rw (h .others 0 (same-ne 0 (suc n) (omega arith))) (wₚ .nought);
-      disconnectedShut = byNumber (suc n) (λ d. isWhole (L′ d) ≡ false → isAttached (L′ d) ≡ false) (λ z. not-both (h .whole) z) (λ e q. rw (h .others e q) (wₚ .disconnectedShut e));
-      ends = byNumber (suc n) (λ d. isReturned (L′ d) ≡ true → isEnding (L′ d .outcome) ≡ true) (λ z. not-both (rw waits-state at z) refl) (λ e q. rw (h .others e q) (wₚ .ends e));
+      disconnectedShut =
+          byNumber (suc n) (λ d. isWhole (L′ d) ≡ false → isAttached (L′ d) ≡ false) (λ z. not-both (h .whole) z)
+          (λ e q. rw (h .others e q) (wₚ .disconnectedShut e));
+      ends =
+          byNumber (suc n) (λ d. isReturned (L′ d) ≡ true → isEnding (L′ d .outcome) ≡ true) (λ z. not-both (rw waits-state at z) refl)
+          (λ e q. rw (h .others e q) (wₚ .ends e));
       low = byNumber (suc n) (λ d. L′ d .tx ≤ m) (rw (h .tx) x-low) (λ e q. rw (h .others e q) (wₚ .low e));
       upper = byNumber (suc n) (λ d. Nz (L′ d .number) → d ≤ suc n) (λ _. omega arith) (λ e q z. let u = wₚ .upper e (rw (h .others e q) at z) in omega arith);
       newFailed = wₚ .newFailed;
@@ -218,9 +251,11 @@ module _ {n m : ℕ} {P : ℕ → Party} {L : ℕ → Link} {v : Shows} (w : Wor
       zeroOf = λ t z. old-links 0 t z (same-ne 0 (suc n) (omega arith)) ∙ wₚ .zeroOf t z;
     }
 
-module _ {n m : ℕ} {P : ℕ → Party} {L : ℕ → Link} {v : Shows} (w : World n m P L v) {P′ : ℕ → Party} {L′ : ℕ → Link} {v′ : Shows} {p x : ℕ} {starts : Bool} (is : x ≡ txP P′ L′ p) where
+module _ {n m : ℕ} {P : ℕ → Party} {L : ℕ → Link} {v : Shows}
+    (w : World n m P L v) {P′ : ℕ → Party} {L′ : ℕ → Link} {v′ : Shows} {p x : ℕ} {starts : Bool} (is : x ≡ txP P′ L′ p) where
   pub makes-world : Next (made (suc n)) p x starts v v′ → (y : ℕ) → Nz y → Makes P L P′ L′ p (suc n) y → World (suc n) m P′ L′ v′
-  makes-world k y z h = stamped k is (makes-core wₖ h (v′ .linkOf) (v′ .madeBy) (λ d u nu. k .linkOf′ d u nu ∙ rw x-is) (λ d u o nu. k .madeBy′ d u o nu ∙ rw x-is))
+  makes-world k y z h =
+      stamped k is (makes-core wₖ h (v′ .linkOf) (v′ .madeBy) (λ d u nu. k .linkOf′ d u nu ∙ rw x-is) (λ d u o nu. k .madeBy′ d u o nu ∙ rw x-is))
     where
       wₖ : World n m P L (relinked (unstamped v v′) (v .linkOf) (v .madeBy))
       wₖ = agrees w (record {
@@ -248,7 +283,17 @@ module _ {n m : ℕ} {P : ℕ → Party} {L : ℕ → Link} {v : Shows} (w : Wor
 -- ---- a link is taken
 -- what v shows, with other servers
 abbrev reserved : Shows → (ℕ → (ℕ → Bool) → Bool) → Shows
-reserved v s = record { serves = s; linkOf = v .linkOf; madeBy = v .madeBy; finished = v .finished; failed = v .failed; disc = v .disc; owner = v .owner; seen = v .seen }
+reserved v s =
+    record {
+      serves = s;
+      linkOf = v .linkOf;
+      madeBy = v .madeBy;
+      finished = v .finished;
+      failed = v .failed;
+      disc = v .disc;
+      owner = v .owner;
+      seen = v .seen;
+    }
 
 module _ {n m : ℕ} {P : ℕ → Party} {L : ℕ → Link} {v : Shows} (w : World n m P L v) {P′ : ℕ → Party} {L′ : ℕ → Link} {p d : ℕ} (s : ℕ → (ℕ → Bool) → Bool)
     (servers : (q : ℕ) (f : ℕ → Bool) → s q f ≡ (same p q && f d) || v .serves q f) (h : Takes P L P′ L′ p d) where
@@ -278,7 +323,8 @@ module _ {n m : ℕ} {P : ℕ → Party} {L : ℕ → Link} {v : Shows} (w : Wor
   take-home : (e : ℕ) → Nz (L e .tx) → isAttached (L e) ≡ true → L e .tx ≡ txP P′ L′ (L e .originator)
   take-home e z o = w .home e z o ∙ sym (txP-keeps P P′ L L′ (L e .originator) (h .owned′ _) (h .served′ _ (same-ne _ _ (h .noEnds e o))) (same-tx _))
 
-  take-kept : (e o q : ℕ) → Nz (P′ q .owned) → v .madeBy e (P′ q .owned) o ≡ true → isRollbackOnly (P′ q) ≡ false → v .finished e o ≡ false → isAttached (L e) ≡ true
+  take-kept : (e o q : ℕ) → Nz (P′ q .owned) → v .madeBy e (P′ q .owned) o ≡ true → isRollbackOnly (P′ q) ≡ false → v .finished e o ≡ false
+      → isAttached (L e) ≡ true
   take-kept e o q z b un fi = w .kept e o q (rw (h .owned′ q) at z) (rw (h .owned′ q) at b) (rw (h .mark′ q) at un) fi
 
   takes-core : World n m P′ L′ (reserved v s)
@@ -308,7 +354,9 @@ module _ {n m : ℕ} {P : ℕ → Party} {L : ℕ → Link} {v : Shows} (w : Wor
         (λ z o. let r = take-live z in (r .0, h .owned′ _ ∙ r .1))
         (λ e z o. let r = w .live e z o in (r .0, h .owned′ _ ∙ r .1));
     home = byLink (λ e l. Nz (l .tx) → isAttached l ≡ true → l .tx ≡ txP P′ L′ (l .originator)) (take-home d) take-home;
-    kept = byLink (λ e l. (o q : ℕ) → Nz (P′ q .owned) → v .madeBy e (P′ q .owned) o ≡ true → isRollbackOnly (P′ q) ≡ false → v .finished e o ≡ false → isAttached l ≡ true) (take-kept d) take-kept;
+    kept =
+        byLink (λ e l. (o q : ℕ) → Nz (P′ q .owned) → v .madeBy e (P′ q .owned) o ≡ true → isRollbackOnly (P′ q) ≡ false → v .finished e o ≡ false → isAttached l ≡ true)
+        (take-kept d) take-kept;
     thereOpen = byLink (λ e l. isAttached l ≡ true → Nz (l .number)) (λ _. h .there) (w .thereOpen);
     thereWork = byLink (λ e l. isWorking l ≡ true → Nz (l .number)) (λ _. h .there) (w .thereWork);
     nought = same-tx 0 ∙ w .nought;
@@ -326,7 +374,8 @@ module _ {n m : ℕ} {P : ℕ → Party} {L : ℕ → Link} {v : Shows} (w : Wor
     zeroOf = w .zeroOf;
   }
 
-pub takes-world : {n m : ℕ} {P : ℕ → Party} {L : ℕ → Link} {v : Shows} → World n m P L v → {P′ : ℕ → Party} {L′ : ℕ → Link} {v′ : Shows} {p x d : ℕ} {starts : Bool}
+pub takes-world : {n m : ℕ} {P : ℕ → Party} {L : ℕ → Link} {v : Shows} → World n m P L v
+    → {P′ : ℕ → Party} {L′ : ℕ → Link} {v′ : Shows} {p x d : ℕ} {starts : Bool}
     → x ≡ txP P′ L′ p → Next (taken d) p x starts v v′ → Takes P L P′ L′ p d → World n m P′ L′ v′
 takes-world {n} {m} {P} {L} {v} w {v′} is k h = stamped k is (takes-core wₖ (v′ .serves) (k .serves′) h)
   where

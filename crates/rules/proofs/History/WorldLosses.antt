@@ -9,7 +9,8 @@ use Rattle.rules.specs.Choice.{same}
 use Rattle.rules.specs.Record.{isAttached, isWorking, isRollbackOnly}
 use Rattle.rules.specs.declared.Link.{Link}
 use Rattle.rules.specs.declared.Party.{Party}
-use Rattle.rules.proofs.Logic.{Nz, pick-true, pick-false, same-refl, same-true, same-false, same-ne, test, not-both, and-l, and-r, and-false, or-l, or-true, above-nz, nz-other}
+use Rattle.rules.proofs.Logic.{Nz, pick-true, pick-false, same-refl, same-true, same-false, same-ne, test}
+use Rattle.rules.proofs.Logic.{not-both, and-l, and-r, and-false, or-l, or-true, above-nz, nz-other}
 use Rattle.rules.proofs.Fine.{noLink, txP}
 use Rattle.rules.proofs.History.Tells.{nothing, sent, given, finished, disconnected, left}
 use Rattle.rules.proofs.History.Moves.{Like, Left, gone, Idle, Sends, Grants, Finishes, Cancels, Disconnects, Leaves, Ends}
@@ -348,7 +349,8 @@ module _ {n m : ℕ} {P : ℕ → Party} {L : ℕ → Link} {v : Shows} (w : Wor
       sym (k .unfinished′ e o refl) ∙ fi,
       leave-kept e o q y (rw (h .owned′ q y) at z) b un,
     );
-    newFailed′ = λ t b. k .failed′ t (above-nz m t b) ∙ rw (w .serve p (λ d. v .linkOf d t), w .newOf (P p .served) t b, and-false, and-false) (w .newFailed t b);
+    newFailed′ =
+        λ t b. k .failed′ t (above-nz m t b) ∙ rw (w .serve p (λ d. v .linkOf d t), w .newOf (P p .served) t b, and-false, and-false) (w .newFailed t b);
     newDisc′ = λ t b. k .disc′ t (above-nz m t b) ∙ w .newDisc t b;
     newFin′ = λ e o b. k .unfinished′ e o refl ∙ w .newFin e o b;
   }))

@@ -7,11 +7,13 @@ use Rattle.rules.specs.declared.Link.{Link}
 use Rattle.rules.specs.declared.Party.{Party}
 use Rattle.rules.proofs.Fine.{txP}
 use Rattle.rules.proofs.History.Tells.{Tell, canStart}
-use Rattle.rules.proofs.History.Moves.{Kept, Move, quiet, sends, grants, finishes, cancels, disconnects, leaves, ends, begins, renews, makes, makesFree, takes}
+use Rattle.rules.proofs.History.Moves.{Kept, Move, quiet, sends, grants, finishes, cancels, disconnects}
+use Rattle.rules.proofs.History.Moves.{leaves, ends, begins, renews, makes, makesFree, takes}
 use Rattle.rules.proofs.History.Shows.{Shows, Next}
 use Rattle.rules.proofs.History.World.{World}
 use Rattle.rules.proofs.History.Stamped.{sane}
-use Rattle.rules.proofs.History.WorldLosses.{quiet-world, sends-world, grants-world, finishes-world, cancels-world, hangs-world, leaves-world, ends-world}
+use Rattle.rules.proofs.History.WorldLosses.{quiet-world, sends-world, grants-world, finishes-world}
+use Rattle.rules.proofs.History.WorldLosses.{cancels-world, hangs-world, leaves-world, ends-world}
 use Rattle.rules.proofs.History.WorldGains.{begins-world, renews-world, makes-world, makesFree-world, takes-world}
 
 module _ {c : Call} {p n m : ℕ} {P : ℕ → Party} {L : ℕ → Link} {n′ m′ : ℕ} {P′ : ℕ → Party} {L′ : ℕ → Link} where

@@ -21,7 +21,8 @@ use Rattle.rules.proofs.History.Tells.{Tell, nothing}
 use Rattle.rules.proofs.History.Moves.{Idle, Begins, Makes, Kept, Move, quiet}
 use Rattle.rules.proofs.History.Left.{like-refl}
 use Rattle.rules.proofs.History.Walk.Moved.{eventOf, timeAfter, Stays, Own, Moved, keeps}
-use Rattle.rules.proofs.History.Walk.Says.{isPast, isSilent, isQuiet, isPlain, isTimed, Says, says-quiet, says-accepted, says-valueless, tells-plain, time-refused, time-kept}
+use Rattle.rules.proofs.History.Walk.Says.{isPast, isSilent, isQuiet, isPlain, isTimed, Says, says-quiet, says-accepted}
+use Rattle.rules.proofs.History.Walk.Says.{says-valueless, tells-plain, time-refused, time-kept}
 
 -- the move of the call c from the record m to the record m′
 abbrev pub MoveTo : Monitor → Call → Monitor → Tell → Type 0
@@ -103,8 +104,10 @@ refused {m} {c} code h f = unmoved code f (time-refused c (ruled m code) _ (not-
     not-0 z q = or-l _ _ (not-true _ (and-l (isSilent z) _ q))
 
 -- by a kind that tells nothing and sets no timeout, with any code past question 21
-pub moved-still : {m : Monitor} {c : Call} (k : ℕ) → c .kind ≡ k → isPlain k ≡ true → isTimed k ≡ false → (code : ℤ) → isPast code ≡ true → Fine m → Moved m c (ruled m code)
-moved-still {m} {c} k e h i code z f = unmoved code f (time-kept c (ruled m code) _ k e i) (says-valueless c (ruled m code) refl z (tells-plain c (ruled m code) k e h))
+pub moved-still : {m : Monitor} {c : Call} (k : ℕ) → c .kind ≡ k → isPlain k ≡ true → isTimed k ≡ false → (code : ℤ) → isPast code ≡ true → Fine m
+    → Moved m c (ruled m code)
+moved-still {m} {c} k e h i code z f =
+    unmoved code f (time-kept c (ruled m code) _ k e i) (says-valueless c (ruled m code) refl z (tells-plain c (ruled m code) k e h))
 
 -- ---- party p's record becomes x, and no other party's changes
 pub record OwnOnly (m m′ : Monitor) (p : ℕ) (x : Party) : Type 0 where
@@ -122,7 +125,8 @@ pub own-then : {m m₁ m₂ : Monitor} {p : ℕ} {x y : Party} → OwnOnly m m�
 own-then f g = record { here = g .here; there = λ q e. g .there q e ∙ f .there q e }
 
 -- a fact of every party's record, from x's and the others'
-pub own-all : {m m′ : Monitor} {p : ℕ} {x : Party} (P : ℕ → Party → Type 0) → OwnOnly m m′ p x → P p x → ((q : ℕ) → P q (party m q)) → (q : ℕ) → P q (party m′ q)
+pub own-all : {m m′ : Monitor} {p : ℕ} {x : Party} (P : ℕ → Party → Type 0) → OwnOnly m m′ p x → P p x → ((q : ℕ) → P q (party m q)) → (q : ℕ)
+    → P q (party m′ q)
 own-all {m′} {p} P o h g = byNumber p (λ q. P q (party m′ q)) (rw (o .here) h) (λ q e. rw (o .there q e) (g q))
 
 -- its transaction, its served link and its mark are as they were
@@ -134,7 +138,8 @@ own-idle {m} o a b c = record {
   mark′ = own-all (λ q y. y .rollbackonly ≡ party m q .rollbackonly) o c (λ _. refl);
 }
 
-pub moved-own : (m : Monitor) (c : Call) (r : Ruled) (x : Party) (t : Tell) → Frame (r .monitor) → r .monitor .clock ≡ m .clock → OwnOnly m (r .monitor) (c .party) x
+pub moved-own : (m : Monitor) (c : Call) (r : Ruled) (x : Party) (t : Tell) → Frame (r .monitor) → r .monitor .clock ≡ m .clock
+    → OwnOnly m (r .monitor) (c .party) x
     → (choicesGood (party m (c .party)) ≡ true → choicesGood x ≡ true)
     → Own m (party m (c .party)) x
     → x .timeout ≡ timeAfter (eventOf c r) (party m (c .party) .timeout)

@@ -9,24 +9,31 @@ use lib.IntN.{ℤ}
 use lib.ListN.{getD}
 use Rattle.rules.specs.Choice.{same}
 use Rattle.rules.specs.Codes.{badArgument, notAllowedNow, noSuchEnd, timedOut, nothingUnread, unreadFull, tpAccepted, tpeEvent}
-use Rattle.rules.specs.Record.{freshLink, freshParty, isConversation, isAttached, isWorking, isReturned, ownEnd, party, live, linkOf, changed, removed, disconnectedLink, valued, notified, withSent, withoutOldest}
+use Rattle.rules.specs.Record.{freshLink, freshParty, isConversation, isAttached, isWorking, isReturned, ownEnd, party, live}
+use Rattle.rules.specs.Record.{linkOf, changed, removed, disconnectedLink, valued, notified, withSent, withoutOldest}
 use Rattle.rules.specs.Transaction.{rollbackOnlyTx, rollbackOnlyIn}
-use Rattle.rules.specs.Conversations.{originatorEnd, serverEnd, anyEnd, hearsDisconnect, hearsReturn, endSide, isSender, tellsDisconnect, tellsReturn, sendOn, sendOf, received, receiveOn, receiveOf, disconnectedAt, disconnectOf}
+use Rattle.rules.specs.Conversations.{originatorEnd, serverEnd, anyEnd, hearsDisconnect, hearsReturn, endSide, isSender, tellsDisconnect}
+use Rattle.rules.specs.Conversations.{tellsReturn, sendOn, sendOf, received, receiveOn, receiveOf, disconnectedAt, disconnectOf}
 use Rattle.rules.specs.declared.Call.{Call}
 use Rattle.rules.specs.declared.Link.{Link}
 use Rattle.rules.specs.declared.Monitor.{Monitor}
 use Rattle.rules.specs.declared.Party.{Party}
 use Rattle.rules.proofs.Logic.{byTest, not-both, same-true, and-l, and-r, or-cases, Nz}
 use Rattle.rules.proofs.Fine.{noLink, look, Frame, Fine}
-use Rattle.rules.proofs.Parties.{rollbackOnlyIn-length, rollbackOnlyIn-either, rollbackOnlyIn-miss, rollbackOnlyIn-hit, rollbackOnlyIn-free, Marks, plain, marked, marks-good}
-use Rattle.rules.proofs.Changes.{parties-frame, changed-clock, changed-lastlink, changed-lasttx, changed-parties, changed-same, changed-other, changed-frame, changed-by, removed-same, removed-other, removed-frame, removed-parties, removed-clock, removed-lastlink, removed-lasttx}
+use Rattle.rules.proofs.Parties.{rollbackOnlyIn-length, rollbackOnlyIn-either, rollbackOnlyIn-miss, rollbackOnlyIn-hit}
+use Rattle.rules.proofs.Parties.{rollbackOnlyIn-free, Marks, plain, marked, marks-good}
+use Rattle.rules.proofs.Changes.{parties-frame, changed-clock, changed-lastlink, changed-lasttx, changed-parties, changed-same}
+use Rattle.rules.proofs.Changes.{changed-other, changed-frame, changed-by, removed-same, removed-other, removed-frame}
+use Rattle.rules.proofs.Changes.{removed-parties, removed-clock, removed-lastlink, removed-lasttx}
 use Rattle.rules.proofs.History.Tells.{Tell, nothing, sent, given, disconnected}
 use Rattle.rules.proofs.History.Moves.{End, Like, Left, Move}
 use Rattle.rules.proofs.History.Left.{like-refl}
 use Rattle.rules.proofs.History.Walk.Moved.{Stays, Moved}
 use Rattle.rules.proofs.History.Walk.Says.{Says, isTimed, says-sent, says-received, says-given, says-ended, says-notified, says-disconnected, time-kept}
-use Rattle.rules.proofs.History.Walk.Base.{MoveTo, KeptTo, IdleTo, ask-moved, pick-moved, refused, idle-parties, moved-stays, moved-links, marks-stay, replied}
-use Rattle.rules.proofs.History.Walk.LinkChanges.{returned-ending, returned-rests, working-waits-not, notified-like, withSent-like, withoutOldest-like, disconnectedLink-left}
+use Rattle.rules.proofs.History.Walk.Base.{MoveTo, KeptTo, IdleTo, ask-moved, pick-moved, refused, idle-parties}
+use Rattle.rules.proofs.History.Walk.Base.{moved-stays, moved-links, marks-stay, replied}
+use Rattle.rules.proofs.History.Walk.LinkChanges.{returned-ending, returned-rests, working-waits-not, notified-like}
+use Rattle.rules.proofs.History.Walk.LinkChanges.{withSent-like, withoutOldest-like, disconnectedLink-left}
 use Rattle.rules.proofs.History.Walk.Requests.{Found, found, changed-kept, finish-moved}
 
 -- ---- the caller's end
@@ -37,7 +44,9 @@ record OriginatorEnd (p : ℕ) (l : Link) : Type 0 where
 
 originator-end : (p : ℕ) (l : Link) → originatorEnd p l ≡ true → OriginatorEnd p l
 unfolding originatorEnd ownEnd
-originator-end p l e = let o = and-r (isConversation l) _ e in record { conversation = and-l _ _ e; attached = and-l _ _ o; originator = same-true _ _ (and-r (isAttached l) _ o) }
+originator-end p l e =
+    let o = and-r (isConversation l) _ e in
+    record { conversation = and-l _ _ e; attached = and-l _ _ o; originator = same-true _ _ (and-r (isAttached l) _ o) }
 
 record ServerEnd (p : ℕ) (l : Link) : Type 0 where
   conversation : isConversation l ≡ true
@@ -83,7 +92,8 @@ unfolding originatorEnd noLink
 originatorEnd-none p = refl
 
 -- ---- link a becomes l′, alike
-module _ (m : Monitor) (c : Call) (fine : Fine m) (timeless : isTimed (c .kind) ≡ false) (f : Found m (c .a)) (l′ : Link) (like : Like (linkOf m (c .a)) l′) where
+module _ (m : Monitor) (c : Call) (fine : Fine m) (timeless : isTimed (c .kind) ≡ false) (f : Found m (c .a)) (l′ : Link)
+    (like : Like (linkOf m (c .a)) l′) where
   like-number : l′ .number ≡ c .a
   like-number = like .number′ ∙ f .number
 
@@ -106,7 +116,8 @@ module _ (m : Monitor) (c : Call) (fine : Fine m) (timeless : isTimed (c .kind) 
   quiet-move s = Move.quiet (changed-kept m c (c .a) l′) idles likes (senders s)
 
 -- ---- 17, 18: what the end's party learns
-module _ (m : Monitor) (c : Call) (fine : Fine m) (timeless : isTimed (c .kind) ≡ false) (kinds : eqb (c .kind) 17 || eqb (c .kind) 18 ≡ true) (f : Found m (c .a)) where
+module _ (m : Monitor) (c : Call) (fine : Fine m) (timeless : isTimed (c .kind) ≡ false) (kinds : eqb (c .kind) 17 || eqb (c .kind) 18 ≡ true)
+    (f : Found m (c .a)) where
   notified-moved : hearsDisconnect (c .party) (linkOf m (c .a)) ≡ true → Moved m c (tellsDisconnect m (c .a) (linkOf m (c .a)))
   unfolding hearsDisconnect tellsDisconnect
   notified-moved e = let k = notified-like (linkOf m (c .a)) (and-r (not (originatorEnd (c .party) (linkOf m (c .a)))) _ e) in
@@ -118,7 +129,9 @@ module _ (m : Monitor) (c : Call) (fine : Fine m) (timeless : isTimed (c .kind) 
   return-moved e =
       let i = f .is in
       let o = originator-end (c .party) (linkOf m (c .a)) (and-l _ _ e) in
-      let r : isReturned (look (c .a) (live m)) ≡ true = rw i at (and-l (isReturned (linkOf m (c .a))) _ (and-r (originatorEnd (c .party) (linkOf m (c .a))) _ e)) in
+      let r : isReturned (look (c .a) (live m)) ≡ true =
+      rw i at (and-l (isReturned (linkOf m (c .a))) _ (and-r (originatorEnd (c .party) (linkOf m (c .a))) _ e))
+      in
       finish-moved m c fine timeless (c .a) (tellsReturn m (c .a) (linkOf m (c .a))) refl
       (says-ended c _ kinds refl refl (rw i (returned-ending (look (c .a) (live m)) (fine .links (c .a)) r)))
       (f .there′) (sym (ap (λ y. y .originator) i) ∙ o .originator) (returned-rests (look (c .a) (live m)) r)
@@ -159,7 +172,8 @@ send-moved m c fine pb k =
 
 -- ---- 18 receive
 module _ (m : Monitor) (c : Call) (fine : Fine m) (k : c .kind ≡ 18) (f : Found m (c .a)) (e : anyEnd (c .party) (look (c .a) (live m)) ≡ true) where
-  given-moved : Moved m c (replied (changed m (c .a) (withoutOldest (linkOf m (c .a)) (endSide (c .party) (linkOf m (c .a))) 0)) tpeEvent 32 (getD (linkOf m (c .a) .unread) 0 0))
+  given-moved : Moved m c
+      (replied (changed m (c .a) (withoutOldest (linkOf m (c .a)) (endSide (c .party) (linkOf m (c .a))) 0)) tpeEvent 32 (getD (linkOf m (c .a) .unread) 0 0))
   given-moved =
       let i = f .is in
       let l′ = withoutOldest (linkOf m (c .a)) (endSide (c .party) (linkOf m (c .a))) 0 in
@@ -176,11 +190,13 @@ module _ (m : Monitor) (c : Call) (fine : Fine m) (k : c .kind ≡ 18) (f : Foun
         sender = ap (λ x. x .sender) (changed-same m (fine .frame) (c .a) (f .there′) l′ (f .number)) ∙ ap (endSide (c .party)) i;
       }))
 
-  oldest-moved : Moved m c (replied (changed m (c .a) (withoutOldest (linkOf m (c .a)) (linkOf m (c .a) .sender) (linkOf m (c .a) .granting))) tpAccepted 0 (getD (linkOf m (c .a) .unread) 0 0))
+  oldest-moved : Moved m c
+      (replied (changed m (c .a) (withoutOldest (linkOf m (c .a)) (linkOf m (c .a) .sender) (linkOf m (c .a) .granting))) tpAccepted 0 (getD (linkOf m (c .a) .unread) 0 0))
   oldest-moved =
       let l′ = withoutOldest (linkOf m (c .a)) (linkOf m (c .a) .sender) (linkOf m (c .a) .granting) in
       let y = withoutOldest-like (linkOf m (c .a)) (linkOf m (c .a) .sender) (linkOf m (c .a) .granting) (λ h. h .sender) (λ h. h .granting) in
-      like-moved m c fine (rw k) f l′ y tpAccepted 0 (getD (linkOf m (c .a) .unread) 0 0) nothing (says-received c _ k refl) (quiet-move m c fine (rw k) f l′ y refl)
+      like-moved m c fine (rw k) f l′ y tpAccepted 0 (getD (linkOf m (c .a) .unread) 0 0) nothing (says-received c _ k refl)
+      (quiet-move m c fine (rw k) f l′ y refl)
 
 pub receive-moved : (m : Monitor) (c : Call) → Fine m → c .party < 16 → c .kind ≡ 18 → Moved m c (receiveOf m (c .party) (c .a))
 unfolding receiveOf receiveOn received
@@ -208,7 +224,8 @@ module _ (m : Monitor) (c : Call) (fine : Fine m) (k : c .kind ≡ 19) (was : is
   stays q = marks-stay _ _ (marks q)
 
   disconnects-moved : Frame m′ → m′ .clock ≡ m .clock → KeptTo m c m′ → Left (look (c .a) (live m)) (look (c .a) (live m′))
-      → (isWorking (look (c .a) (live m)) ≡ true → isWorking (look (c .a) (live m′)) ≡ true) → ((e : ℕ) → same e (c .a) ≡ false → look e (live m′) ≡ look e (live m))
+      → (isWorking (look (c .a) (live m)) ≡ true → isWorking (look (c .a) (live m′)) ≡ true)
+      → ((e : ℕ) → same e (c .a) ≡ false → look e (live m′) ≡ look e (live m))
       → Moved m c (valued m′ 0)
   disconnects-moved fr ck kept left works others =
       moved-stays m c (valued m′ 0) (disconnected (c .a)) fr ck stays (λ q. marks-good _ _ (marks q)) (time-kept c _ _ 19 k refl) (says-disconnected c _ k refl)
@@ -221,8 +238,12 @@ module _ (m : Monitor) (c : Call) (fine : Fine m) (k : c .kind ≡ 19) (was : is
         owned′ = λ q. stays q .owned′;
         served′ = λ q. stays q .served′;
         hit = λ u q n e. rw (ps, rollbackOnlyIn-hit (look (c .a) (live m) .tx) n q (m .parties) e (λ r y. u r q (rw y n) (y ∙ sym e)));
-        miss = λ q n. ap (λ (x : List Party). getD x q freshParty .rollbackonly) ps ∙ ap (λ x. x .rollbackonly) (rollbackOnlyIn-miss (look (c .a) (live m) .tx) q (m .parties) n);
-        unowned = λ q e. ap (λ (x : List Party). getD x q freshParty .rollbackonly) ps ∙ ap (λ x. x .rollbackonly) (rollbackOnlyIn-free (look (c .a) (live m) .tx) q (m .parties) e);
+        miss =
+            λ q n. ap (λ (x : List Party). getD x q freshParty .rollbackonly) ps
+            ∙ ap (λ x. x .rollbackonly) (rollbackOnlyIn-miss (look (c .a) (live m) .tx) q (m .parties) n);
+        unowned =
+            λ q e. ap (λ (x : List Party). getD x q freshParty .rollbackonly) ps
+            ∙ ap (λ x. x .rollbackonly) (rollbackOnlyIn-free (look (c .a) (live m) .tx) q (m .parties) e);
       }))
 
 pub disconnect-moved : (m : Monitor) (c : Call) → Fine m → c .party < 16 → c .kind ≡ 19 → Moved m c (disconnectOf m (c .party) (c .a))

@@ -15,7 +15,8 @@ use Rattle.rules.proofs.Fine.{noLink, look, Frame}
 use Rattle.rules.proofs.Changes.{Thin, none, one, Thins, leftIn, leftBy, collected-look, collected-frame}
 use Rattle.rules.proofs.History.Moves.{isWhole, Left, gone, Ends, Shut, shut}
 use Rattle.rules.proofs.History.Left.{left-refl}
-use Rattle.rules.proofs.History.Walk.LinkChanges.{working-waits-not, notified-not-whole, noLink-attached, noLink-waiting, noLink-working, closed-shut, disconnectedLink-shut}
+use Rattle.rules.proofs.History.Walk.LinkChanges.{working-waits-not, notified-not-whole, noLink-attached, noLink-waiting}
+use Rattle.rules.proofs.History.Walk.LinkChanges.{noLink-working, closed-shut, disconnectedLink-shut}
 use Rattle.rules.proofs.History.Walk.Base.{OwnOnly, own-set, own-all}
 
 -- ---- a link fades: it stays, it is gone, or its end is shut
@@ -63,13 +64,16 @@ orphaned-by : (X : Link → Type 0) (l : Link) → X (closed l) → (isNotified 
 unfolding orphaned
 orphaned-by X l a b c = byTest X (λ _. a) (λ _. byTest X b (λ _. c))
 
-end-by : (X : Link → Type 0) (t : ℕ) (l : Link) → (isWorking l ≡ true → X (orphaned l)) → (isWorking l ≡ false → X noLink) → (same (l .tx) t ≡ false → X l) → X (endLeft t l)
+end-by : (X : Link → Type 0) (t : ℕ) (l : Link) → (isWorking l ≡ true → X (orphaned l)) → (isWorking l ≡ false → X noLink)
+    → (same (l .tx) t ≡ false → X l) → X (endLeft t l)
 unfolding endOf leftIn
 end-by X t l a b c = byTest (λ xs. X (leftIn xs)) (λ _. byTest (λ xs. X (leftIn xs)) a b) c
 
 end-thins : (t : ℕ) → Thins (endOf t)
 unfolding endOf
-end-thins t l = byTest (Thin l) (λ _. byTest (Thin l) (λ _. one (orphaned l) (orphaned-by (λ (x : Link). x .number ≡ l .number) l refl (λ _. refl) refl)) (λ _. none)) (λ _. one l refl)
+end-thins t l =
+    byTest (Thin l) (λ _. byTest (Thin l) (λ _. one (orphaned l) (orphaned-by (λ (x : Link). x .number ≡ l .number) l refl (λ _. refl) refl)) (λ _. none))
+    (λ _. one l refl)
 
 pub end-fade : (t : ℕ) (l x : Link) → Fade l x → Fade l (endLeft t x)
 end-fade t l x f = end-by (Fade l) t x
@@ -121,7 +125,8 @@ module _ (m : Monitor) (fr : Frame m) (p : ℕ) (b : p < 16) where
         (set (m .parties) p (owningNone (party m p))) (end-none (party m p .owned) has) e
 
     -- as a move, to a record m′ that has those links, and y as party p's record
-    pub ends-to : (m′ : Monitor) (y : Party) → OwnOnly m m′ p y → live m′ ≡ live (endTx m p) → y .owned ≡ 0 → y .rollbackonly ≡ 0 → y .served ≡ party m p .served
+    pub ends-to : (m′ : Monitor) (y : Party) → OwnOnly m m′ p y → live m′ ≡ live (endTx m p) → y .owned ≡ 0 → y .rollbackonly ≡ 0
+        → y .served ≡ party m p .served
         → Ends (λ q. party m q) (λ d. look d (live m)) (λ q. party m′ q) (λ d. look d (live m′)) p
     ends-to m′ y o l n k s = record {
       has = has;

@@ -17,8 +17,12 @@ use Rattle.rules.specs.declared.Monitor.{Monitor}
 use Rattle.rules.proofs.Logic.{byTest, test, pick-true, pick-false, and-l, and-r, same-true, Nz}
 use Rattle.rules.proofs.Fine.{look, Frame}
 use Rattle.rules.proofs.Looks.{look-number, there, linkOf-look, look-linkOf}
-use Rattle.rules.proofs.Parties.{rollbackOnlyIn-length, rollbackOnlyIn-either, rollbackOnlyIn-miss, rollbackOnlyIn-hit, rollbackOnlyBy-length, rollbackOnlyBy-either, rollbackOnlyBy-miss, Marks, plain, marked, marks-more, marks-owned, rollbackOnlyIn-free, rollbackOnlyBy-free}
-use Rattle.rules.proofs.Changes.{leftBy, parties-frame, changed-clock, changed-lastlink, changed-lasttx, changed-parties, changed-same, changed-other, changed-frame, collected-look, collected-frame, removed-same, removed-other, removed-frame, removed-clock, removed-lastlink, removed-lasttx, removed-parties}
+use Rattle.rules.proofs.Parties.{rollbackOnlyIn-length, rollbackOnlyIn-either, rollbackOnlyIn-miss, rollbackOnlyIn-hit}
+use Rattle.rules.proofs.Parties.{rollbackOnlyBy-length, rollbackOnlyBy-either, rollbackOnlyBy-miss, Marks, plain}
+use Rattle.rules.proofs.Parties.{marked, marks-more, marks-owned, rollbackOnlyIn-free, rollbackOnlyBy-free}
+use Rattle.rules.proofs.Changes.{leftBy, parties-frame, changed-clock, changed-lastlink, changed-lasttx, changed-parties, changed-same}
+use Rattle.rules.proofs.Changes.{changed-other, changed-frame, collected-look, collected-frame, removed-same, removed-other}
+use Rattle.rules.proofs.Changes.{removed-frame, removed-clock, removed-lastlink, removed-lasttx, removed-parties}
 use Rattle.rules.proofs.History.Walk.LinkChanges.{noLink-attached}
 use Rattle.rules.proofs.History.Walk.Ending.{endLeft, end-own, end-frame, end-look}
 use Rattle.rules.proofs.History.Walk.Parting.{partLeft, handLeft, close-thin, close-no}
@@ -133,7 +137,8 @@ module _ (m : Monitor) (fr : Frame m) (p : ℕ) (b : p < 16) where
 
 pub shedAll-numbers : (m : Monitor) (p : ℕ) → Numbers m (shedAll m p)
 unfolding closeOwn endOwn endTx
-shedAll-numbers m p = byTest (Numbers m) (λ _. record { clock′ = refl; lastlink′ = refl; lasttx′ = refl }) (λ _. record { clock′ = refl; lastlink′ = refl; lasttx′ = refl })
+shedAll-numbers m p =
+    byTest (Numbers m) (λ _. record { clock′ = refl; lastlink′ = refl; lasttx′ = refl }) (λ _. record { clock′ = refl; lastlink′ = refl; lasttx′ = refl })
 
 -- ---- the served link's transaction becomes rollback-only, unless the outcome is 8
 module _ (o t : ℕ) (m : Monitor) where
@@ -143,7 +148,8 @@ module _ (o t : ℕ) (m : Monitor) where
 
   pub rollbackOnlyServed-numbers : Numbers m (rollbackOnlyServed o t m)
   unfolding rollbackOnlyServed
-  rollbackOnlyServed-numbers = byTest (Numbers m) (λ _. record { clock′ = refl; lastlink′ = refl; lasttx′ = refl }) (λ _. record { clock′ = refl; lastlink′ = refl; lasttx′ = refl })
+  rollbackOnlyServed-numbers =
+      byTest (Numbers m) (λ _. record { clock′ = refl; lastlink′ = refl; lasttx′ = refl }) (λ _. record { clock′ = refl; lastlink′ = refl; lasttx′ = refl })
 
   pub rollbackOnlyServed-frame : Frame m → Frame (rollbackOnlyServed o t m)
   unfolding rollbackOnlyServed
@@ -158,9 +164,12 @@ module _ (o t : ℕ) (m : Monitor) where
   unfolding rollbackOnlyServed
   rollbackOnlyServed-free q z = byTest (λ y. party y q ≡ party m q) (λ _. refl) (λ _. rollbackOnlyIn-free t q (m .parties) z)
 
-  pub rollbackOnlyServed-hit : (q : ℕ) → eqb o 8 ≡ false → Nz t → party m q .owned ≡ t → ((r : ℕ) → party m r .owned ≡ t → r ≡ q) → party (rollbackOnlyServed o t m) q ≡ rollbackOnly (party m q)
+  pub rollbackOnlyServed-hit : (q : ℕ) → eqb o 8 ≡ false → Nz t → party m q .owned ≡ t → ((r : ℕ) → party m r .owned ≡ t → r ≡ q)
+      → party (rollbackOnlyServed o t m) q ≡ rollbackOnly (party m q)
   unfolding rollbackOnlyServed
-  rollbackOnlyServed-hit q z n e u = let marks : rollbackOnlyServed o t m ≡ rollbackOnlyTx m t = unfold pick in rw z in ap (λ x. party x q) marks ∙ rollbackOnlyIn-hit t n q (m .parties) e u
+  rollbackOnlyServed-hit q z n e u =
+      let marks : rollbackOnlyServed o t m ≡ rollbackOnlyTx m t = unfold pick in rw z in
+      ap (λ x. party x q) marks ∙ rollbackOnlyIn-hit t n q (m .parties) e u
 
   pub rollbackOnlyServed-miss : (q : ℕ) → (eqb o 8 ≡ false → party m q .owned ≡ t → ⊥) → party (rollbackOnlyServed o t m) q ≡ party m q
   unfolding rollbackOnlyServed
@@ -208,4 +217,6 @@ handBack-numbers m d o e = byTest (Numbers m) (λ _. changed-numbers m d _)
 
 pub handBack-party : (m : Monitor) (d o e q : ℕ) → party (handBack m d o e) q ≡ party m q
 unfolding handBack
-handBack-party m d o e q = byTest (λ x. party x q ≡ party m q) (λ _. ap (λ ps. getD ps q freshParty) (changed-parties m d _)) (λ _. ap (λ ps. getD ps q freshParty) (removed-parties m d))
+handBack-party m d o e q =
+    byTest (λ x. party x q ≡ party m q) (λ _. ap (λ ps. getD ps q freshParty) (changed-parties m d _))
+    (λ _. ap (λ ps. getD ps q freshParty) (removed-parties m d))

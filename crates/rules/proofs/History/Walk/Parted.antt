@@ -20,7 +20,12 @@ use Rattle.rules.proofs.Changes.{changed-parties, changed-same, changed
 use Rattle.rules.proofs.History.Moves.{isWhole, isEnding, Like}
 use Rattle.rules.proofs.History.Left.{like-refl}
 use Rattle.rules.proofs.History.Walk.Parting.{partLeft, handLeft, Closing, part-closing, part-works, part-dull, unread-like, hand-closing}
-use Rattle.rules.proofs.History.Walk.Leaving.{Numbers, numbers-then, changed-numbers, shed, shed-owned, shedAll, shedAll-frame, shedAll-look, shedAll-self, shedAll-marks, shedAll-free, shedAll-miss, shedAll-numbers, rollbackOnlyServed-live, rollbackOnlyServed-numbers, rollbackOnlyServed-frame, rollbackOnlyServed-marks, rollbackOnlyServed-free, rollbackOnlyServed-miss, rollbackOnlyServed-hit, handBack-frame, handBack-self, handBack-other, handBack-numbers, handBack-party}
+use Rattle.rules.proofs.History.Walk.Leaving.{Numbers, numbers-then, changed-numbers, shed, shed-owned, shedAll, shedAll-frame, shedAll-look}
+use Rattle.rules.proofs.History.Walk.Leaving.{shedAll-self, shedAll-marks, shedAll-free, shedAll-miss, shedAll-numbers}
+use Rattle.rules.proofs.History.Walk.Leaving.{rollbackOnlyServed-live, rollbackOnlyServed-numbers, rollbackOnlyServed-frame}
+use Rattle.rules.proofs.History.Walk.Leaving.{rollbackOnlyServed-marks, rollbackOnlyServed-free, rollbackOnlyServed-miss}
+use Rattle.rules.proofs.History.Walk.Leaving.{rollbackOnlyServed-hit, handBack-frame, handBack-self, handBack-other, handBack-numbers}
+use Rattle.rules.proofs.History.Walk.Leaving.{handBack-party}
 
 -- party p has left m, with a failed end or not, and is x in m′
 pub record Parted (m m′ : Monitor) (p : ℕ) (bad : Bool) (x : Party) : Type 0 where
@@ -152,7 +157,8 @@ module _ (m : Monitor) (fi : Fine m) (p : ℕ) (b : p < 16) (s : Nz (party m p .
 
   look5 : (i : ℕ) → look i (live m5) ≡ partLeft p (party m p .owned) (look i (live m1))
   unfolding servesNone
-  look5 i = ap (look i) (rollbackOnlyServed-live o (linkOf m d .tx) m3) ∙ shedAll-look m1 frame1 p b i ∙ ap (λ x. partLeft p (x .owned) (look i (live m1))) (party1 p)
+  look5 i =
+      ap (look i) (rollbackOnlyServed-live o (linkOf m d .tx) m3) ∙ shedAll-look m1 frame1 p b i ∙ ap (λ x. partLeft p (x .owned) (look i (live m1))) (party1 p)
 
   other5 : (q : ℕ) → same q p ≡ false → party m5 q ≡ party m4 q
   unfolding servesNone
@@ -174,7 +180,9 @@ module _ (m : Monitor) (fi : Fine m) (p : ℕ) (b : p < 16) (s : Nz (party m p .
 
   numbers5 : Numbers m m5
   unfolding servesNone
-  numbers5 = let k = numbers-then (changed-numbers m d (unreadAfter o (linkOf m d))) (numbers-then (shedAll-numbers m1 p) (rollbackOnlyServed-numbers o (linkOf m d .tx) m3)) in
+  numbers5 =
+      let later = numbers-then (shedAll-numbers m1 p) (rollbackOnlyServed-numbers o (linkOf m d .tx) m3) in
+      let k = numbers-then (changed-numbers m d (unreadAfter o (linkOf m d))) later in
       record { clock′ = k .clock′; lastlink′ = k .lastlink′; lasttx′ = k .lasttx′ }
 
   only : (q : ℕ) → party m q .owned ≡ l .tx → Nz (party m q .owned) → ((r : ℕ) → party m r .owned ≡ party m q .owned → r ≡ q)
@@ -198,7 +206,8 @@ module _ (m : Monitor) (fi : Fine m) (p : ℕ) (b : p < 16) (s : Nz (party m p .
     marks = λ q y. rw (party6 q y) (rollbackOnlyServed-marks o (linkOf m d .tx) m3 (party m q) q (marks3 q y));
     free = λ q y z. party6 q y ∙ rollbackOnlyServed-free o (linkOf m d .tx) m3 q (ap (λ x. x .owned) (free3 q y z) ∙ z) ∙ free3 q y z;
     miss = λ q y f g. party6 q y
-        ∙ rollbackOnlyServed-miss o (linkOf m d .tx) m3 q (λ z i. f (sym (marks-owned (party m q) (party m3 q) (marks3 q y)) ∙ i ∙ linkOf-tx m d) (not-8-bad o n z))
+        ∙ rollbackOnlyServed-miss o (linkOf m d .tx) m3 q
+        (λ z i. f (sym (marks-owned (party m q) (party m3 q) (marks3 q y)) ∙ i ∙ linkOf-tx m d) (not-8-bad o n z))
         ∙ miss3 q y g;
     hit = λ q y a t z u. ap (λ x. isRollbackOnly x) (party6 q y ∙ rollbackOnlyServed-hit o (linkOf m d .tx) m3 q (bad-8 o a)
         (rw (linkOf-tx m d, ← t) z) (marks-owned (party m q) (party m3 q) (marks3 q y) ∙ t ∙ sym (linkOf-tx m d)) (only q t z u));

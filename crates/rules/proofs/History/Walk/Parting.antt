@@ -13,8 +13,10 @@ use Rattle.rules.proofs.Fine.{noLink}
 use Rattle.rules.proofs.Changes.{Thin, Thins, none, one, leftIn, leftBy}
 use Rattle.rules.proofs.History.Moves.{isWhole, isEnding, Like, Back, Left, gone, back}
 use Rattle.rules.proofs.History.Left.{like-refl}
-use Rattle.rules.proofs.History.Walk.LinkChanges.{noLink-attached, noLink-waiting, working-returned-not, closed-shut, disconnectedLink-shut, dropped-like, returned-back, own-end, noLink-own}
-use Rattle.rules.proofs.History.Walk.Ending.{endLeft, end-works, end-swept, end-spared, end-none, Fade, stays, goes, shuts, fade-left, fade-open, end-fade, Works, Dull}
+use Rattle.rules.proofs.History.Walk.LinkChanges.{noLink-attached, noLink-waiting, working-returned-not, closed-shut, disconnectedLink-shut}
+use Rattle.rules.proofs.History.Walk.LinkChanges.{dropped-like, returned-back, own-end, noLink-own}
+use Rattle.rules.proofs.History.Walk.Ending.{endLeft, end-works, end-swept, end-spared, end-none, Fade, stays}
+use Rattle.rules.proofs.History.Walk.Ending.{goes, shuts, fade-left, fade-open, end-fade, Works, Dull}
 
 -- both come to pass
 unfoldable pub partLeft : ℕ → ℕ → Link → Link
@@ -83,7 +85,8 @@ fade-dull t l x (stays i) c z e = rw i (end-swept t l c e)
 fade-dull t l x (goes i) c z e = rw (i, end-none t z, noLink-attached) noLink-waiting
 fade-dull t l x (shuts s) c z e = end-swept t x (λ _. s .closed′) (s .tx′ ∙ e)
 
-pub part-dull : (p t : ℕ) (l : Link) → (isWhole l ≡ false → isAttached l ≡ false) → Nz t → l .tx ≡ t → isAttached (partLeft p t l) || isWaiting (partLeft p t l) ≡ false
+pub part-dull : (p t : ℕ) (l : Link) → (isWhole l ≡ false → isAttached l ≡ false) → Nz t → l .tx ≡ t
+    → isAttached (partLeft p t l) || isWaiting (partLeft p t l) ≡ false
 unfolding partLeft same
 part-dull p t l c z e = rw (pick-false (eqb t 0) (leftBy (closeEnd p) l) (endLeft t (leftBy (closeEnd p) l)) z)
     (fade-dull t l _ (close-fade p l) c z e)

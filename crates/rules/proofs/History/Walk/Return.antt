@@ -54,7 +54,8 @@ module _ (m m′ : Monitor) (p : ℕ) (bad : Bool) (x : Party) (fi : Fine m) (h 
   apart : Sane (λ q. party m q) (λ d. look d (live m)) p → look (party m p .served) (live m) .tx ≡ party m p .owned → Nz (party m p .owned) → ⊥
   apart s e z = same-false _ _ z (s .alone (rw e z))
 
-  parted-leaves : Sane (λ q. party m q) (λ d. look d (live m)) p → Leaves (λ q. party m q) (λ d. look d (live m)) (λ q. party m′ q) (λ d. look d (live m′)) p bad
+  parted-leaves : Sane (λ q. party m q) (λ d. look d (live m)) p
+      → Leaves (λ q. party m q) (λ d. look d (live m)) (λ q. party m′ q) (λ d. look d (live m′)) p bad
   parted-leaves s = record {
     less = λ e. h .closing e .less;
     badOpen = badOpen;
@@ -166,7 +167,8 @@ module _ (m : Monitor) (c : Call) (fi : Fine m) (b : c .party < 16) where
 
   -- it served none, or a link
   either-moved : (served : Bool) (x y : Monitor) (v w : ℕ) → (served ≡ true → Moved m c (valued (withParty x (c .party) freshParty) v))
-      → (served ≡ false → Moved m c (valued (withParty y (c .party) freshParty) w)) → Moved m c (valued (withParty (pick served x y) (c .party) freshParty) (pick served v w))
+      → (served ≡ false → Moved m c (valued (withParty y (c .party) freshParty) w))
+      → Moved m c (valued (withParty (pick served x y) (c .party) freshParty) (pick served v w))
   unfolding pick
   either-moved true x y v w f g = f refl
   either-moved false x y v w f g = g refl

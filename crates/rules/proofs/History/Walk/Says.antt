@@ -144,7 +144,8 @@ module _ (c : Call) (r : Ruled) where
   -- the server is notified of a disconnect
   pub says-notified : eqb (c .kind) 17 || eqb (c .kind) 18 ≡ true → r .value ≡ 0 → r .code ≡ pos 29 → r .event ≡ 1 → Says c r nothing
   unfolding tellOf ofKind eventOf answeredTo accepted answeredBy withEvent endingEvent
-  says-notified k v z e = says-valueless v (rw z) (or-cases (eqb (c .kind) 17) _ k (λ a. rw (eqb-true (c .kind) 17 a, z, e)) (λ a. rw (eqb-true (c .kind) 18 a, z, e)))
+  says-notified k v z e =
+      says-valueless v (rw z) (or-cases (eqb (c .kind) 17) _ k (λ a. rw (eqb-true (c .kind) 17 a, z, e)) (λ a. rw (eqb-true (c .kind) 18 a, z, e)))
 
   -- ---- 19
   pub says-disconnected : c .kind ≡ 19 → r .code ≡ pos 0 → Says c r (disconnected (c .a))

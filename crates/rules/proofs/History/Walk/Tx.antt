@@ -26,9 +26,11 @@ use Rattle.rules.proofs.History.Tells.{nothing, canStart}
 use Rattle.rules.proofs.History.Moves.{Move, ends, renews}
 use Rattle.rules.proofs.History.Walk.Moved.{Own, Moved}
 use Rattle.rules.proofs.History.Walk.Says.{isPast, isPlain, isTimed, Says, says-valueless, tells-plain, time-kept, time-set, time-none}
-use Rattle.rules.proofs.History.Walk.Base.{BeginsTo, ask-moved, pick-moved, refused, moved-still, OwnOnly, own-set, own-then, own-all, moved-own, moved-quiet}
+use Rattle.rules.proofs.History.Walk.Base.{BeginsTo, ask-moved, pick-moved, refused, moved-still, OwnOnly}
+use Rattle.rules.proofs.History.Walk.Base.{own-set, own-then, own-all, moved-own, moved-quiet}
 use Rattle.rules.proofs.History.Walk.Ending.{end-own, end-frame, ends-to, end-ends, end-clock, end-lastlink, end-lasttx}
-use Rattle.rules.proofs.History.Walk.States.{state-is, state-free, state-low, next-open, next-close, next-begin, next-begun, next-control, in-good, in-opened, own-entered, frame-entered}
+use Rattle.rules.proofs.History.Walk.States.{state-is, state-free, state-low, next-open, next-close, next-begin, next-begun}
+use Rattle.rules.proofs.History.Walk.States.{next-control, in-good, in-opened, own-entered, frame-entered}
 
 -- ---- 1, 2, 8, 9: the caller's fields but its transaction
 module _ (m : Monitor) (c : Call) (f : Fine m) (b : c .party < 16) where
@@ -72,7 +74,9 @@ module _ (m : Monitor) (c : Call) (f : Fine m) (b : c .party < 16) where
   -- ---- 6, 7: nothing changes
   pub info-moved : c .kind ≡ 6 → Moved m c (infoOf m (c .party))
   unfolding infoOf
-  info-moved e = ask-moved (λ _. pick-moved (λ _. moved-still 6 e refl refl txInfoOutside refl f) (λ _. moved-still 6 e refl refl txInfoInside refl f)) (λ _. refused txProtocolError refl f)
+  info-moved e =
+      ask-moved (λ _. pick-moved (λ _. moved-still 6 e refl refl txInfoOutside refl f) (λ _. moved-still 6 e refl refl txInfoInside refl f))
+      (λ _. refused txProtocolError refl f)
 
   pub commit-return-moved : c .kind ≡ 7 → Moved m c (commitReturnOf m (c .party) (c .a))
   unfolding commitReturnOf
@@ -81,7 +85,8 @@ module _ (m : Monitor) (c : Call) (f : Fine m) (b : c .party < 16) where
       (λ _. refused txEinval refl f)) (λ _. refused txProtocolError refl f)
 
   -- ---- 2: in S0 to S2 an opened party owns nothing
-  closes-moved : c .kind ≡ 2 → (s : ℕ) → leb (stateOf m (c .party)) 2 ≡ true → Moved m c (ruled (withParty m (c .party) (withTimeout (inState (party m (c .party)) s) 0)) txOk)
+  closes-moved : c .kind ≡ 2 → (s : ℕ) → leb (stateOf m (c .party)) 2 ≡ true
+      → Moved m c (ruled (withParty m (c .party) (withTimeout (inState (party m (c .party)) s) 0)) txOk)
   unfolding inState same
   closes-moved e s h = moved-quiet m c 0 (withTimeout (inState (party m (c .party)) s) 0) 2 f b e refl (record {
     good = in-good (party m (c .party)) s;
@@ -145,7 +150,8 @@ tx-says c k e h m code z = says-valueless c (ruled m code) refl z (tells-plain c
 
 module _ (m : Monitor) (c : Call) (f : Fine m) (b : c .party < 16) where
   -- ---- 3
-  begins-moved : c .kind ≡ 3 → (s : ℕ) → eqb s 0 ≡ false → txOf m (c .party) ≡ 0 → txLeft m ≡ true → Moved m c (ruled (entered (beginTx m (c .party)) (c .party) s) txOk)
+  begins-moved : c .kind ≡ 3 → (s : ℕ) → eqb s 0 ≡ false → txOf m (c .party) ≡ 0 → txLeft m ≡ true
+      → Moved m c (ruled (entered (beginTx m (c .party)) (c .party) s) txOk)
   unfolding entered beginTx inState canStart
   begins-moved e s n t h = let p = c .party in let y = inState (begun m p) s in let r = ruled (entered (beginTx m p) p s) txOk in
       moved-own m c r y nothing (frame-entered p s b (begin-frame m (f .frame) p b h)) refl (begun-own m (f .frame) p b h s)
@@ -160,7 +166,8 @@ module _ (m : Monitor) (c : Call) (f : Fine m) (b : c .party < 16) where
       (λ _. refused txError refl f)) (λ _. refused txProtocolError refl f)
 
   -- ---- 4, 5: the owned transaction ends
-  module _ (k : ℕ) (e : c .kind ≡ k) (plain : isPlain k ≡ true) (timeless : isTimed k ≡ false) (start : canStart c ≡ true) (has : Nz (party m (c .party) .owned)) where
+  module _ (k : ℕ) (e : c .kind ≡ k) (plain : isPlain k ≡ true) (timeless : isTimed k ≡ false) (start : canStart c ≡ true)
+      (has : Nz (party m (c .party) .owned)) where
     -- and no other begins
     ends-moved : (s : ℕ) (code : ℤ) → isPast code ≡ true → Moved m c (ruled (entered (endTx m (c .party)) (c .party) s) code)
     unfolding entered inState endTx same
@@ -185,7 +192,8 @@ module _ (m : Monitor) (c : Call) (f : Fine m) (b : c .party < 16) where
         let y = inState (begun m′ p) s in
         let r = ruled (entered (beginTx m′ p) p s) code in
         let was = end-own m (f .frame) p b .here in
-        moved-own m c r y nothing (frame-entered p s b (begin-frame m′ fr p b h)) (end-clock m p) (own-then (end-own m (f .frame) p b) (begun-own m′ fr p b h s))
+        moved-own m c r y nothing (frame-entered p s b (begin-frame m′ fr p b h)) (end-clock m p)
+        (own-then (end-own m (f .frame) p b) (begun-own m′ fr p b h s))
         (λ g. in-good (begun m′ p) s (rw was (mark-good (party m p) g)))
         (Own.begins (rw (end-lasttx m p) (omega arith)) (rw (end-clock m p, was)))
         (ap (λ x. x .timeout) was ∙ sym (time-kept c r _ k e timeless))
