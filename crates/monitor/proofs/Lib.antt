@@ -8,10 +8,10 @@ pub mod Laws
 pub mod Lending
 pub mod Lists
 pub mod Opening
-pub mod Owners
 pub mod Pieces
 pub mod Prefixes
 pub mod Put
+pub mod Search
 pub mod Served
 pub mod Sets
 pub mod Steady

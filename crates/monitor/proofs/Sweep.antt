@@ -18,7 +18,7 @@ use Rattle.rules.specs.Record.{freshLink, blanks, live, withContents, withParti
 use Rattle.rules.proofs.Logic.{pick-true, pick-false, test}
 use Rattle.monitor.specs.Words.{words}
 use Rattle.monitor.specs.View.{linkIn, blanked, view}
-use Rattle.monitor.proofs.Lists.{collect-more}
+use Rattle.monitor.proofs.Lists.{first-within, collect-more}
 use Rattle.monitor.proofs.Laws.{links-long}
 
 -- ---- the loop that blanks
@@ -150,15 +150,6 @@ module _ {f : Link → List Link} {ws : List ℕ} {h : Monitor} {xs : List ℕ} 
       ∙ ap (λ (m : Monitor). rebuilt m (collect f (live (view ws)))) (g .other)
 
 -- ---- before the first that passes the test a, f keeps each, where f keeps each that does not pass it
-first-within : (a : Link → Bool) (l : List Link) → firstOf a l ≤ length l
-unfolding firstOf pick
-first-within a [] = omega arith
-first-within a (x ∷ l) = by-test (a x) (firstOf a l) (length l) (first-within a l)
-  where
-    by-test : (b : Bool) (k n : ℕ) → k ≤ n → pick b 0 (suc k) ≤ suc n
-    by-test true k n h = omega arith
-    by-test false k n h = omega arith
-
 kept-before : (f : Link → List Link) (a : Link → Bool) → ((x : Link) → a x ≡ false → f x ≡ x ∷ []) → (l : List Link) → collect f (take (firstOf a l) l) ≡ take (firstOf a l) l
 unfolding firstOf collect
 kept-before f a keeps [] = refl
