@@ -25,8 +25,8 @@ pub record Search {A : Type 0} (f : A → Bool) (s : List A) (at : ℕ → A) (n
 
 module _ {A : Type 0} {f : A → Bool} {s : List A} {at : ℕ → A} {n i : ℕ} (g : Search f s at n i) where
   -- the test at the place i, by the x that was read there and what was asked of it
-  pub asked : {x : A} {b c : Bool} → x ≡ at i → b ≡ f x → b ≡ c → f (at i) ≡ c
-  asked r t e = ap f (sym r) ∙ sym t ∙ e
+  pub tested : {x : A} {b c : Bool} → x ≡ at i → b ≡ f x → b ≡ c → f (at i) ≡ c
+  tested r t e = ap f (sym r) ∙ sym t ∙ e
 
   module _ (k : i < n) where
     pub found-first : f (at i) ≡ true → i ≡ firstOf f s
