@@ -20,20 +20,11 @@ Inv-loop s₀ from to none i₀ s i = (length s ≡ words) × (from ≤ i) × (i
 abbrev μ-loop : tie.MeasureT-loop
 μ-loop s₀ from to none i₀ s i = to - i
 
-fresh-requires : tie.Need-fresh-requires Inv-loop μ-loop
-fresh-requires c κs = search needs
-
 loop-holds : tie.Need-loop-holds Inv-loop μ-loop
 loop-holds c = (c .before .pre .2, omega arith, c .before .pre .0, blank-none (c .before .args .s .now) (c .before .args .from))
 
 put-link-requires : tie.Need-put-link-requires Inv-loop μ-loop
 put-link-requires c κs = (omega arith, c .before .before .loop .inv .0)
-
-add-i : tie.Need-add-i Inv-loop μ-loop
-add-i c = search needs
-
-loop-less : tie.Need-loop-less Inv-loop μ-loop
-loop-less c = search needs
 
 loop-again : tie.Need-loop-again Inv-loop μ-loop
 loop-again c =
@@ -56,10 +47,10 @@ blank-from-spec =
     (tie.spec
     Inv-loop
     μ-loop
-    fresh-requires
+    (λ c κs. search needs)
     loop-holds
     put-link-requires
-    add-i
-    loop-less
+    (λ c. search needs)
+    (λ c. search needs)
     loop-again
     returns)

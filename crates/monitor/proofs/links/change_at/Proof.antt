@@ -3,12 +3,6 @@ use Rattle.monitor.proofs.Usual.{sym, _∙_, arith, needs, lt-ltb, le-l
 use Rattle.monitor.proofs.links.change_at.Statement.{statement}
 use Rattle.monitor.proofs.links.change_at.Tie as tie
 
-count-requires : tie.Need-count-requires
-count-requires c κs = search needs
-
-put-link-requires : tie.Need-put-link-requires
-put-link-requires c κs = search needs
-
 returns : tie.Need-returns
 returns c =
     let s = c .before .before .before .before .before in
@@ -25,4 +19,4 @@ returns-2 c =
     (sym (pick-false _ _ _ q), s .pre .1, s .pre .0)
 
 pub change-at-spec : {M : Type 1} → statement M
-change-at-spec = tie.close (tie.spec count-requires put-link-requires returns returns-2)
+change-at-spec = tie.close (tie.spec (λ c κs. search needs) (λ c κs. search needs) returns returns-2)

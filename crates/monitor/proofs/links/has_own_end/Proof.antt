@@ -3,12 +3,6 @@ use Rattle.monitor.proofs.Usual.{ap₂, sym, _∙_, needs, ltb, ownEnd,
 use Rattle.monitor.proofs.links.has_own_end.Statement.{statement}
 use Rattle.monitor.proofs.links.has_own_end.Tie as tie
 
-first-own-requires : tie.Need-first-own-requires
-first-own-requires c κs = search needs
-
-count-requires : tie.Need-count-requires
-count-requires c κs = search needs
-
 returns : tie.Need-returns
 returns c =
     let s = c .before .before in
@@ -16,4 +10,4 @@ returns c =
     ap₂ ltb (c .before .first-own .ensures) (c .count .ensures ∙ sym (live-long xs (s .pre))) ∙ sym (any-first (ownEnd (s .args .p)) (live (view xs)))
 
 pub has-own-end-spec : {M : Type 1} → statement M
-has-own-end-spec = tie.close (tie.spec first-own-requires count-requires returns)
+has-own-end-spec = tie.close (tie.spec (λ c κs. search needs) (λ c κs. search needs) returns)

@@ -4,12 +4,9 @@ use Rattle.monitor.proofs.Usual.{needs, same, ownEnd}
 use Rattle.monitor.proofs.links.is_own_end.Statement.{statement}
 use Rattle.monitor.proofs.links.is_own_end.Tie as tie
 
-cast-result : tie.Need-cast-result
-cast-result c = search needs
-
 returns : tie.Need-returns
 unfolding ownEnd same
 returns c = search needs
 
 pub is-own-end-spec : {M : Type 1} → statement M
-is-own-end-spec = tie.close (tie.spec cast-result returns)
+is-own-end-spec = tie.close (tie.spec (λ c. search needs) returns)

@@ -3,20 +3,11 @@ use Rattle.monitor.proofs.Usual.{sym, _∙_, arith, needs, freshLink, v
 use Rattle.monitor.proofs.links.live_at.Statement.{statement}
 use Rattle.monitor.proofs.links.live_at.Tie as tie
 
-count-requires : tie.Need-count-requires
-count-requires c κs = search needs
-
-link-at-requires : tie.Need-link-at-requires
-link-at-requires c κs = search needs
-
 returns : tie.Need-returns
 returns c =
     let s = c .before .before .before in
     let e = c .before .before .count .ensures in
     c .link-at .ensures ∙ sym (live-in (s .args .s .now) (s .args .i) (s .pre) (omega arith))
-
-fresh-requires : tie.Need-fresh-requires
-fresh-requires c κs = search needs
 
 returns-2 : tie.Need-returns-2
 returns-2 c =
@@ -28,4 +19,4 @@ returns-2 c =
 
 pub live-at-spec : {M : Type 1} → statement M
 live-at-spec =
-    tie.close (tie.spec count-requires link-at-requires returns fresh-requires returns-2)
+    tie.close (tie.spec (λ c κs. search needs) (λ c κs. search needs) returns (λ c κs. search needs) returns-2)

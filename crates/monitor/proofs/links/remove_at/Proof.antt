@@ -32,23 +32,11 @@ Inv-loop s₀ at n len i₀ j₀ s i j = (len ≡ view s₀ .count) × Sweeps (g
 abbrev μ-loop : tie.MeasureT-loop
 μ-loop s₀ at n len i₀ j₀ s i j = len - i
 
-count-requires : tie.Need-count-requires Inv-loop μ-loop
-count-requires c κs = search needs
-
 loop-holds : tie.Need-loop-holds Inv-loop μ-loop
 loop-holds c =
     let s = c .before .before in
     let n = s .args .n in
     (c .count .ensures, sweep-first (goneOf n) (numbered n) (others-stay n) (s .args .s .now) (s .args .at) (s .pre .1) (s .pre .0) (s .pre .2))
-
-link-at-requires : tie.Need-link-at-requires Inv-loop μ-loop
-link-at-requires c κs = search needs
-
-add-i : tie.Need-add-i Inv-loop μ-loop
-add-i c = search needs
-
-loop-less : tie.Need-loop-less Inv-loop μ-loop
-loop-less c = search needs
 
 loop-again : tie.Need-loop-again Inv-loop μ-loop
 loop-again c =
@@ -57,27 +45,12 @@ loop-again c =
     let e = v .inv .0 in
     (e, sweep-drop (v .inv .1) (omega arith) (l .ensures) (goes _ _ (c .if1 .taken)))
 
-put-link-requires : tie.Need-put-link-requires Inv-loop μ-loop
-put-link-requires c κs = search needs
-
-add-i-2 : tie.Need-add-i-2 Inv-loop μ-loop
-add-i-2 c = search needs
-
-add-j : tie.Need-add-j Inv-loop μ-loop
-add-j c = search needs
-
-loop-less-2 : tie.Need-loop-less-2 Inv-loop μ-loop
-loop-less-2 c = search needs
-
 loop-again-2 : tie.Need-loop-again-2 Inv-loop μ-loop
 loop-again-2 c =
     let v = c .before .before .before .before .before .before .before .loop in
     let l = c .before .before .before .before .link-at in
     let e = v .inv .0 in
     (e, sweep-put (v .inv .1) (omega arith) (l .ensures) _ (c .put-link .ensures) (stays _ _ (c .before .before .if1 .left)))
-
-keep-first-requires : tie.Need-keep-first-requires Inv-loop μ-loop
-keep-first-requires c κs = search needs
 
 returns : tie.Need-returns Inv-loop μ-loop
 unfolding removed
@@ -92,16 +65,16 @@ remove-at-spec =
     (tie.spec
     Inv-loop
     μ-loop
-    count-requires
+    (λ c κs. search needs)
     loop-holds
-    link-at-requires
-    add-i
-    loop-less
+    (λ c κs. search needs)
+    (λ c. search needs)
+    (λ c. search needs)
     loop-again
-    put-link-requires
-    add-i-2
-    add-j
-    loop-less-2
+    (λ c κs. search needs)
+    (λ c. search needs)
+    (λ c. search needs)
+    (λ c. search needs)
     loop-again-2
-    keep-first-requires
+    (λ c κs. search needs)
     returns)

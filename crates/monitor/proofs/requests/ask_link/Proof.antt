@@ -3,29 +3,17 @@ use Rattle.monitor.proofs.Usual.{sym, _∙_, needs, not-true, not-false
 use Rattle.monitor.proofs.requests.ask_link.Statement.{statement}
 use Rattle.monitor.proofs.requests.ask_link.Tie as tie
 
-is-ended-requires : tie.Need-is-ended-requires
-is-ended-requires c κs = search needs
-
 returns : tie.Need-returns
 unfolding askLink pick
 returns c = rw (sym (c .before .is-ended .ensures) ∙ c .if1 .taken)
-
-is-expired-requires : tie.Need-is-expired-requires
-is-expired-requires c κs = search needs
 
 returns-2 : tie.Need-returns-2
 unfolding askLink pick
 returns-2 c = rw (sym (c .before .before .before .is-ended .ensures) ∙ c .before .before .if1 .left, sym (c .before .is-expired .ensures) ∙ c .if2 .taken)
 
-is-offered-requires : tie.Need-is-offered-requires
-is-offered-requires c κs = search needs
-
 returns-3 : tie.Need-returns-3
 unfolding askLink pick
 returns-3 c = rw (sym (c .before .before .before .before .before .is-ended .ensures) ∙ c .before .before .before .before .if1 .left, sym (c .before .before .before .is-expired .ensures) ∙ c .before .before .if2 .left, sym (c .before .is-offered .ensures) ∙ not-true _ (c .if3 .taken))
-
-is-link-left-requires : tie.Need-is-link-left-requires
-is-link-left-requires c κs = search needs
 
 returns-4 : tie.Need-returns-4
 unfolding askLink pick
@@ -39,12 +27,12 @@ pub ask-link-spec : {M : Type 1} → statement M
 ask-link-spec =
     tie.close
     (tie.spec
-    is-ended-requires
+    (λ c κs. search needs)
     returns
-    is-expired-requires
+    (λ c κs. search needs)
     returns-2
-    is-offered-requires
+    (λ c κs. search needs)
     returns-3
-    is-link-left-requires
+    (λ c κs. search needs)
     returns-4
     returns-5)

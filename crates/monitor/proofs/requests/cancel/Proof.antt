@@ -3,18 +3,9 @@ use Rattle.monitor.proofs.Usual.{ap, sym, _∙_, needs, eq-eqb, ne-eqb,
 use Rattle.monitor.proofs.requests.cancel.Statement.{statement}
 use Rattle.monitor.proofs.requests.cancel.Tie as tie
 
-remove-at-requires : tie.Need-remove-at-requires
-remove-at-requires c κs = search needs
-
 returns : tie.Need-returns
 unfolding cancelled
 returns c = (c .remove-at .ensures .0 ∙ sym (pick-true _ _ _ (eq-eqb _ _ (c .before .before .if1 .taken))), c .remove-at .ensures .1)
-
-close-end-requires : tie.Need-close-end-requires
-close-end-requires c κs = search needs
-
-put-link-requires : tie.Need-put-link-requires
-put-link-requires c κs = search needs
 
 returns-2 : tie.Need-returns-2
 unfolding cancelled
@@ -26,4 +17,4 @@ returns-2 c =
 
 pub cancel-spec : {M : Type 1} → statement M
 cancel-spec =
-    tie.close (tie.spec remove-at-requires returns close-end-requires put-link-requires returns-2)
+    tie.close (tie.spec (λ c κs. search needs) returns (λ c κs. search needs) (λ c κs. search needs) returns-2)

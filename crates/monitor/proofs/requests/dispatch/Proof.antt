@@ -5,21 +5,6 @@ use Rattle.rules.specs.Record.{serving, working}
 use Rattle.monitor.proofs.requests.dispatch.Statement.{statement}
 use Rattle.monitor.proofs.requests.dispatch.Tie as tie
 
-dispatch-event-requires : tie.Need-dispatch-event-requires
-dispatch-event-requires c κs = search needs
-
-party-at-requires : tie.Need-party-at-requires
-party-at-requires c κs = search needs
-
-cast-k : tie.Need-cast-k
-cast-k c = search needs
-
-put-party-requires : tie.Need-put-party-requires
-put-party-requires c κs = search needs
-
-put-link-requires : tie.Need-put-link-requires
-put-link-requires c κs = search needs
-
 returns : tie.Need-returns
 unfolding dispatched
 returns c =
@@ -35,9 +20,9 @@ pub dispatch-spec : {M : Type 1} → statement M
 dispatch-spec =
     tie.close
     (tie.spec
-    dispatch-event-requires
-    party-at-requires
-    cast-k
-    put-party-requires
-    put-link-requires
+    (λ c κs. search needs)
+    (λ c κs. search needs)
+    (λ c. search needs)
+    (λ c κs. search needs)
+    (λ c κs. search needs)
     returns)

@@ -3,12 +3,6 @@ use Rattle.monitor.proofs.Usual.{_≡_, _∙_, needs, w64, toZ, ofZ, fe
 use Rattle.monitor.proofs.requests.fetch.Statement.{statement}
 use Rattle.monitor.proofs.requests.fetch.Tie as tie
 
-remove-at-requires : tie.Need-remove-at-requires
-remove-at-requires c κs = search needs
-
-outcome-code-requires : tie.Need-outcome-code-requires
-outcome-code-requires c κs = search needs
-
 returns : tie.Need-returns
 unfolding fetched
 returns c =
@@ -17,4 +11,4 @@ returns c =
     (λ i. record { monitor = c .before .remove-at .ensures .0 i; code = (z ∙ o .ensures) i; value = 0; event = 0; token = c .before .before .before .args .l .ending; service = 0 }, c .before .remove-at .ensures .1)
 
 pub fetch-spec : {M : Type 1} → statement M
-fetch-spec = tie.close (tie.spec remove-at-requires outcome-code-requires returns)
+fetch-spec = tie.close (tie.spec (λ c κs. search needs) (λ c κs. search needs) returns)

@@ -27,9 +27,6 @@ module _ (m : Monitor) (p : ℕ) (q : Party) (e : q ≡ party m p) where
       unfolding servedTx
       free t = asked ∙ ap (idleOf q) (pick-true _ _ _ (eq-eqb _ _ t) ∙ pick-true _ _ _ (eq-eqb _ _ d)) ∙ rw (eq-eqb (q .opened) 1 o, eq-eqb (q .served) 0 d)
 
-party-at-requires : tie.Need-party-at-requires
-party-at-requires c κs = search needs
-
 returns : tie.Need-returns
 returns c =
     let a = c .before .before .before .args in
@@ -45,9 +42,6 @@ returns-3 c =
     let a = c .before .before .before .before .before .before .before .args in
     sym (owning (view (a .s .now)) (a .p) _ (c .before .before .before .before .before .before .party-at .ensures) (c .before .before .before .before .if1 .left) (c .before .before .if2 .left) (c .if3 .taken))
 
-has-own-end-requires : tie.Need-has-own-end-requires
-has-own-end-requires c κs = search needs
-
 returns-4 : tie.Need-returns-4
 returns-4 c =
     let a = c .before .before .before .before .before .before .before .before .args in
@@ -56,4 +50,4 @@ returns-4 c =
 pub is-idle-spec : {M : Type 1} → statement M
 is-idle-spec =
     tie.close
-    (tie.spec party-at-requires returns returns-2 returns-3 has-own-end-requires returns-4)
+    (tie.spec (λ c κs. search needs) returns returns-2 returns-3 (λ c κs. search needs) returns-4)

@@ -3,12 +3,9 @@ use Rattle.monitor.proofs.Usual.{ap, Bool, _&&_, needs, isRequest, requ
 use Rattle.monitor.proofs.requests.is_request_end.Statement.{statement}
 use Rattle.monitor.proofs.requests.is_request_end.Tie as tie
 
-is-own-end-requires : tie.Need-is-own-end-requires
-is-own-end-requires c κs = search needs
-
 returns : tie.Need-returns
 unfolding requestEnd
 returns c = ap (λ (own : Bool). isRequest (c .before .before .args .l) && own) (c .before .is-own-end .ensures)
 
 pub is-request-end-spec : {M : Type 1} → statement M
-is-request-end-spec = tie.close (tie.spec is-own-end-requires returns)
+is-request-end-spec = tie.close (tie.spec (λ c κs. search needs) returns)

@@ -7,18 +7,6 @@ use Rattle.monitor.proofs.requests.open_link.Tie as tie
 opened : (m : Monitor) (kind p x a t c s : ℕ) {n : Monitor} {l : Link} {d : ℕ} → n ≡ added m l → l ≡ newLink d kind p x a t c s → d ≡ m .lastlink + 1 → n ≡ added m (newLink (m .lastlink + 1) kind p x a t c s)
 opened m kind p x a t c s n l d = n ∙ ap (added m) l ∙ ap (λ (d : ℕ). added m (newLink d kind p x a t c s)) d
 
-last-link-requires : tie.Need-last-link-requires
-last-link-requires c κs = search needs
-
-add-d : tie.Need-add-d
-add-d c = search needs
-
-new-link-requires : tie.Need-new-link-requires
-new-link-requires c κs = search needs
-
-add-link-requires : tie.Need-add-link-requires
-add-link-requires c κs = search needs
-
 returns : tie.Need-returns
 returns c =
     let a = c .before .before .before .before .before .args in
@@ -27,4 +15,4 @@ returns c =
 
 pub open-link-spec : {M : Type 1} → statement M
 open-link-spec =
-    tie.close (tie.spec last-link-requires add-d new-link-requires add-link-requires returns)
+    tie.close (tie.spec (λ c κs. search needs) (λ c. search needs) (λ c κs. search needs) (λ c κs. search needs) returns)

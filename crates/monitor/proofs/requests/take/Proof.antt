@@ -3,30 +3,12 @@ use Rattle.monitor.proofs.Usual.{ℕ, _<_, ap, sym, _∙_, arith, needs
 use Rattle.monitor.proofs.requests.take.Statement.{statement}
 use Rattle.monitor.proofs.requests.take.Tie as tie
 
-is-idle-requires : tie.Need-is-idle-requires
-is-idle-requires c κs = search needs
-
-coded-requires : tie.Need-coded-requires
-coded-requires c κs = search needs
-
 returns : tie.Need-returns
 unfolding dispatchOf
 returns c =
     let s = c .before .before .before .before in
     let m = view (s .args .s .now) in
     (ap (λ (t : Told). ruledBy t m) (c .coded .ensures) ∙ sym (pick-false _ _ _ (sym (c .before .before .is-idle .ensures) ∙ not-true _ (c .before .if1 .taken))), s .pre .2)
-
-next-waiting-requires : tie.Need-next-waiting-requires
-next-waiting-requires c κs = search needs
-
-count-requires : tie.Need-count-requires
-count-requires c κs = search needs
-
-link-at-requires : tie.Need-link-at-requires
-link-at-requires c κs = search needs
-
-dispatch-requires : tie.Need-dispatch-requires
-dispatch-requires c κs = search needs
 
 returns-2 : tie.Need-returns-2
 unfolding dispatchOf
@@ -42,9 +24,6 @@ returns-2 c =
     let r = ap (dispatched m p (k .result)) l ∙ ap (λ (i : ℕ). dispatched m p i (liveAt m i)) (k .ensures) in
     (c .dispatch .ensures .0 ∙ r ∙ sym (pick-true _ _ _ u ∙ pick-true _ _ _ v), c .dispatch .ensures .1)
 
-coded-requires-2 : tie.Need-coded-requires-2
-coded-requires-2 c κs = search needs
-
 returns-3 : tie.Need-returns-3
 unfolding dispatchOf
 returns-3 c =
@@ -59,13 +38,13 @@ pub take-spec : {M : Type 1} → statement M
 take-spec =
     tie.close
     (tie.spec
-    is-idle-requires
-    coded-requires
+    (λ c κs. search needs)
+    (λ c κs. search needs)
     returns
-    next-waiting-requires
-    count-requires
-    link-at-requires
-    dispatch-requires
+    (λ c κs. search needs)
+    (λ c κs. search needs)
+    (λ c κs. search needs)
+    (λ c κs. search needs)
     returns-2
-    coded-requires-2
+    (λ c κs. search needs)
     returns-3)

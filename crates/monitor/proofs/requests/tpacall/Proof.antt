@@ -47,29 +47,11 @@ told c =
     let a = c .before .before .before .before .before .before .before .before .before .before .before .before .before .args in
     opened (view (a .s .now)) (a .p) (a .a) (a .b) (a .c) (good (c .before .before .before .before .before .before .before .before .before .before) ∙ not-false _ (c .before .before .before .before .before .before .before .before .before .if1 .left)) (answer (c .before .before .before .before .before)) (c .before .before .before .before .if2 .left) (c .before .open-link .ensures .1) (c .before .before .before .open-end .ensures) (c .before .before .before .before .before .before .before .link-tx .ensures)
 
-tx-of-requires : tie.Need-tx-of-requires
-tx-of-requires c κs = search needs
-
-is-service-requires : tie.Need-is-service-requires
-is-service-requires c κs = search needs
-
-coded-requires : tie.Need-coded-requires
-coded-requires c κs = search needs
-
 returns : tie.Need-returns
 returns c =
     let s = c .before .before .before .before .before in
     let a = s .args in
     (refused (view (a .s .now)) (a .p) (a .a) (a .b) (a .c) (good (c .before .before) ∙ not-true _ (c .before .if1 .taken)) (c .coded .ensures), s .pre .2)
-
-link-tx-requires : tie.Need-link-tx-requires
-link-tx-requires c κs = search needs
-
-ask-link-requires : tie.Need-ask-link-requires
-ask-link-requires c κs = search needs
-
-coded-requires-2 : tie.Need-coded-requires-2
-coded-requires-2 c κs = search needs
 
 returns-2 : tie.Need-returns-2
 returns-2 c =
@@ -77,26 +59,14 @@ returns-2 c =
     let a = s .args in
     (stopped (view (a .s .now)) (a .p) (a .a) (a .b) (a .c) (good (c .before .before .before .before .before .before .before) ∙ not-false _ (c .before .before .before .before .before .before .if1 .left)) (answer (c .before .before)) (c .before .if2 .taken) (c .coded2 .ensures), s .pre .2)
 
-open-end-requires : tie.Need-open-end-requires
-open-end-requires c κs = search needs
-
 open-link-requires : tie.Need-open-link-requires
 open-link-requires c κs = let h = all-pass _ _ _ (answer (c .before .before .before)) (c .before .before .if2 .left) in search needs
-
-no-reply-requires : tie.Need-no-reply-requires
-no-reply-requires c κs = search needs
-
-accept-requires : tie.Need-accept-requires
-accept-requires c κs = search needs
 
 returns-3 : tie.Need-returns-3
 returns-3 c =
     let n = c .before .before in
     let v = sym (pick-true _ _ _ (sym (n .no-reply .ensures) ∙ c .before .if3 .taken)) in
     (told n v (c .accept .ensures), n .before .open-link .ensures .2)
-
-accept-requires-2 : tie.Need-accept-requires-2
-accept-requires-2 c κs = search needs
 
 returns-4 : tie.Need-returns-4
 returns-4 c =
@@ -108,18 +78,18 @@ pub tpacall-spec : {M : Type 1} → statement M
 tpacall-spec =
     tie.close
     (tie.spec
-    tx-of-requires
-    is-service-requires
-    coded-requires
+    (λ c κs. search needs)
+    (λ c κs. search needs)
+    (λ c κs. search needs)
     returns
-    link-tx-requires
-    ask-link-requires
-    coded-requires-2
+    (λ c κs. search needs)
+    (λ c κs. search needs)
+    (λ c κs. search needs)
     returns-2
-    open-end-requires
+    (λ c κs. search needs)
     open-link-requires
-    no-reply-requires
-    accept-requires
+    (λ c κs. search needs)
+    (λ c κs. search needs)
     returns-3
-    accept-requires-2
+    (λ c κs. search needs)
     returns-4)

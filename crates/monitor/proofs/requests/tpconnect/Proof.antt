@@ -38,29 +38,11 @@ answer c =
     let z : toZ w64 (ofZ w64 (r .result)) ≡ r .result = search needs in
     asked _ _ (r .ensures) (c .before .before .link-tx .ensures) z
 
-is-service-requires : tie.Need-is-service-requires
-is-service-requires c κs = search needs
-
-connect-flags-requires : tie.Need-connect-flags-requires
-connect-flags-requires c κs = search needs
-
-coded-requires : tie.Need-coded-requires
-coded-requires c κs = search needs
-
 returns : tie.Need-returns
 returns c =
     let s = c .before .before .before .before in
     let a = s .args in
     (refused (view (a .s .now)) (a .p) (a .a) (a .b) (a .c) (good (c .before .before) ∙ not-true _ (c .before .if1 .taken)) (c .coded .ensures), s .pre .2)
-
-link-tx-requires : tie.Need-link-tx-requires
-link-tx-requires c κs = search needs
-
-ask-link-requires : tie.Need-ask-link-requires
-ask-link-requires c κs = search needs
-
-coded-requires-2 : tie.Need-coded-requires-2
-coded-requires-2 c κs = search needs
 
 returns-2 : tie.Need-returns-2
 returns-2 c =
@@ -68,14 +50,8 @@ returns-2 c =
     let a = s .args in
     (stopped (view (a .s .now)) (a .p) (a .a) (a .b) (a .c) (good (c .before .before .before .before .before .before .before) ∙ not-false _ (c .before .before .before .before .before .before .if1 .left)) (answer (c .before .before)) (c .before .if2 .taken) (c .coded2 .ensures), s .pre .2)
 
-first-sender-requires : tie.Need-first-sender-requires
-first-sender-requires c κs = search needs
-
 open-link-requires : tie.Need-open-link-requires
 open-link-requires c κs = let h = all-pass _ _ _ (answer (c .before .before .before)) (c .before .before .if2 .left) in search needs
-
-accept-requires : tie.Need-accept-requires
-accept-requires c κs = search needs
 
 returns-3 : tie.Need-returns-3
 returns-3 c =
@@ -88,15 +64,15 @@ pub tpconnect-spec : {M : Type 1} → statement M
 tpconnect-spec =
     tie.close
     (tie.spec
-    is-service-requires
-    connect-flags-requires
-    coded-requires
+    (λ c κs. search needs)
+    (λ c κs. search needs)
+    (λ c κs. search needs)
     returns
-    link-tx-requires
-    ask-link-requires
-    coded-requires-2
+    (λ c κs. search needs)
+    (λ c κs. search needs)
+    (λ c κs. search needs)
     returns-2
-    first-sender-requires
+    (λ c κs. search needs)
     open-link-requires
-    accept-requires
+    (λ c κs. search needs)
     returns-3)

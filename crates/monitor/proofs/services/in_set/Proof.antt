@@ -11,16 +11,10 @@ returns c = sym (in-set-as _ _ _ (below-services _ (c .if1 .taken)))
 returns-2 : tie.Need-returns-2
 returns-2 c = sym (in-set-as _ _ _ (above-services _ (c .if2 .taken)))
 
-cast-result : tie.Need-cast-result
-cast-result c = search needs
-
-shr-result : tie.Need-shr-result
-shr-result c = search needs
-
 returns-3 : tie.Need-returns-3
 returns-3 c =
     let a = c .before .before .args .a in
     sym (in-set-as _ _ _ (within-services a (omega arith) (omega arith)))
 
 pub in-set-spec : {M : Type 1} → statement M
-in-set-spec = tie.close (tie.spec returns returns-2 cast-result shr-result returns-3)
+in-set-spec = tie.close (tie.spec returns returns-2 (λ c. search needs) (λ c. search needs) returns-3)

@@ -4,12 +4,9 @@ use Rattle.monitor.proofs.Usual.{needs, offers}
 use Rattle.monitor.proofs.services.is_offering.Statement.{statement}
 use Rattle.monitor.proofs.services.is_offering.Tie as tie
 
-in-set-requires : tie.Need-in-set-requires
-in-set-requires c κs = search needs
-
 returns : tie.Need-returns
 unfolding offers
 returns c = c .in-set .ensures
 
 pub is-offering-spec : {M : Type 1} → statement M
-is-offering-spec = tie.close (tie.spec in-set-requires returns)
+is-offering-spec = tie.close (tie.spec (λ c κs. search needs) returns)

@@ -5,18 +5,6 @@ use Rattle.rules.specs.Record.{offering}
 use Rattle.monitor.proofs.services.offer.Statement.{statement}
 use Rattle.monitor.proofs.services.offer.Tie as tie
 
-party-at-requires : tie.Need-party-at-requires
-party-at-requires c κs = search needs
-
-put-party-requires : tie.Need-put-party-requires
-put-party-requires c κs = search needs
-
-service-count-requires : tie.Need-service-count-requires
-service-count-requires c κs = search needs
-
-accept-requires : tie.Need-accept-requires
-accept-requires c κs = search needs
-
 returns : tie.Need-returns
 unfolding offersNow
 returns c =
@@ -29,4 +17,4 @@ returns c =
 pub offer-spec : {M : Type 1} → statement M
 offer-spec =
     tie.close
-    (tie.spec party-at-requires put-party-requires service-count-requires accept-requires returns)
+    (tie.spec (λ c κs. search needs) (λ c κs. search needs) (λ c κs. search needs) (λ c κs. search needs) returns)

@@ -16,31 +16,13 @@ may has some = has || ltb some 8
 abbrev advertiseOn : Monitor → ℕ → ℕ → Party → Ruled
 advertiseOn m p a q = ask m (isService a) badArgument (ask m (may (offers a q) (offered (q .services))) noRoomLeft (offersNow m p (withService (q .services) a)))
 
-coded-requires : tie.Need-coded-requires
-coded-requires c κs = search needs
-
 returns : tie.Need-returns
 unfolding advertiseOf
 returns c = (code-told _ (c .coded .ensures) ∙ sym (pick-false _ _ _ (below-services _ (c .before .if1 .taken))), c .before .before .pre .1)
 
-coded-requires-2 : tie.Need-coded-requires-2
-coded-requires-2 c κs = search needs
-
 returns-2 : tie.Need-returns-2
 unfolding advertiseOf
 returns-2 c = (code-told _ (c .coded2 .ensures) ∙ sym (pick-false _ _ _ (above-services _ (c .before .if2 .taken))), c .before .before .before .pre .1)
-
-party-at-requires : tie.Need-party-at-requires
-party-at-requires c κs = search needs
-
-is-offering-requires : tie.Need-is-offering-requires
-is-offering-requires c κs = search needs
-
-service-count-requires : tie.Need-service-count-requires
-service-count-requires c κs = search needs
-
-coded-requires-3 : tie.Need-coded-requires-3
-coded-requires-3 c κs = search needs
 
 returns-3 : tie.Need-returns-3
 unfolding advertiseOf
@@ -51,12 +33,6 @@ returns-3 c =
     let f = sym (ap₂ may (c .before .before .before .is-offering .ensures) (c .before .before .service-count .ensures)) ∙ not-true _ (c .before .if3 .taken) in
     let r = g ∙ pick-true _ _ _ (within-services (a .a) (c .before .before .before .before .before .before .before .if1 .left) (c .before .before .before .before .before .before .if2 .left)) ∙ pick-false _ _ _ f in
     (code-told _ (c .coded3 .ensures) ∙ sym r, s .pre .1)
-
-with-service-requires : tie.Need-with-service-requires
-with-service-requires c κs = search needs
-
-offer-requires : tie.Need-offer-requires
-offer-requires c κs = search needs
 
 returns-4 : tie.Need-returns-4
 unfolding advertiseOf
@@ -72,15 +48,15 @@ pub tpadvertise-spec : {M : Type 1} → statement M
 tpadvertise-spec =
     tie.close
     (tie.spec
-    coded-requires
+    (λ c κs. search needs)
     returns
-    coded-requires-2
+    (λ c κs. search needs)
     returns-2
-    party-at-requires
-    is-offering-requires
-    service-count-requires
-    coded-requires-3
+    (λ c κs. search needs)
+    (λ c κs. search needs)
+    (λ c κs. search needs)
+    (λ c κs. search needs)
     returns-3
-    with-service-requires
-    offer-requires
+    (λ c κs. search needs)
+    (λ c κs. search needs)
     returns-4)

@@ -12,28 +12,13 @@ use Rattle.monitor.proofs.services.tpunadvertise.Tie as tie
 abbrev unadvertiseOn : Monitor → ℕ → ℕ → Party → Ruled
 unadvertiseOn m p a q = ask m (isService a) badArgument (ask m (offers a q) notOffered (offersNow m p (withoutService (q .services) a)))
 
-coded-requires : tie.Need-coded-requires
-coded-requires c κs = search needs
-
 returns : tie.Need-returns
 unfolding unadvertiseOf
 returns c = (code-told _ (c .coded .ensures) ∙ sym (pick-false _ _ _ (below-services _ (c .before .if1 .taken))), c .before .before .pre .1)
 
-coded-requires-2 : tie.Need-coded-requires-2
-coded-requires-2 c κs = search needs
-
 returns-2 : tie.Need-returns-2
 unfolding unadvertiseOf
 returns-2 c = (code-told _ (c .coded2 .ensures) ∙ sym (pick-false _ _ _ (above-services _ (c .before .if2 .taken))), c .before .before .before .pre .1)
-
-party-at-requires : tie.Need-party-at-requires
-party-at-requires c κs = search needs
-
-is-offering-requires : tie.Need-is-offering-requires
-is-offering-requires c κs = search needs
-
-coded-requires-3 : tie.Need-coded-requires-3
-coded-requires-3 c κs = search needs
 
 returns-3 : tie.Need-returns-3
 unfolding unadvertiseOf
@@ -49,9 +34,6 @@ without-service-requires : tie.Need-without-service-requires
 unfolding offers
 without-service-requires c κs = (c .before .before .before .before .before .if1 .left, c .before .before .before .before .if2 .left, sym (c .before .is-offering .ensures) ∙ not-false _ (c .if3 .left))
 
-offer-requires : tie.Need-offer-requires
-offer-requires c κs = search needs
-
 returns-4 : tie.Need-returns-4
 unfolding unadvertiseOf
 returns-4 c =
@@ -66,14 +48,14 @@ pub tpunadvertise-spec : {M : Type 1} → statement M
 tpunadvertise-spec =
     tie.close
     (tie.spec
-    coded-requires
+    (λ c κs. search needs)
     returns
-    coded-requires-2
+    (λ c κs. search needs)
     returns-2
-    party-at-requires
-    is-offering-requires
-    coded-requires-3
+    (λ c κs. search needs)
+    (λ c κs. search needs)
+    (λ c κs. search needs)
     returns-3
     without-service-requires
-    offer-requires
+    (λ c κs. search needs)
     returns-4)

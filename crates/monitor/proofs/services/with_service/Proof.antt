@@ -5,21 +5,9 @@ use Rattle.monitor.proofs.Sets.{shifted, joins}
 use Rattle.monitor.proofs.services.with_service.Statement.{statement}
 use Rattle.monitor.proofs.services.with_service.Tie as tie
 
-in-set-requires : tie.Need-in-set-requires
-in-set-requires c κs = search needs
-
 returns : tie.Need-returns
 unfolding withService
 returns c = sym (pick-true _ _ _ (sym (c .before .in-set .ensures) ∙ c .if1 .taken))
-
-sub-result : tie.Need-sub-result
-sub-result c = search needs
-
-cast-result : tie.Need-cast-result
-cast-result c = search needs
-
-shl-result : tie.Need-shl-result
-shl-result c = search needs
 
 add-result : tie.Need-add-result
 add-result c =
@@ -36,4 +24,4 @@ returns-2 c =
 pub with-service-spec : {M : Type 1} → statement M
 with-service-spec =
     tie.close
-    (tie.spec in-set-requires returns sub-result cast-result shl-result add-result returns-2)
+    (tie.spec (λ c κs. search needs) returns (λ c. search needs) (λ c. search needs) (λ c. search needs) add-result returns-2)

@@ -5,15 +5,6 @@ use Rattle.monitor.proofs.Sets.{shifted, leaves}
 use Rattle.monitor.proofs.services.without_service.Statement.{statement}
 use Rattle.monitor.proofs.services.without_service.Tie as tie
 
-sub-result : tie.Need-sub-result
-sub-result c = search needs
-
-cast-result : tie.Need-cast-result
-cast-result c = search needs
-
-shl-result : tie.Need-shl-result
-shl-result c = search needs
-
 sub-result-2 : tie.Need-sub-result-2
 sub-result-2 c =
     let a = c .args in
@@ -25,4 +16,4 @@ returns c =
     rw (shifted (a .a) (omega arith) (omega arith))
 
 pub without-service-spec : {M : Type 1} → statement M
-without-service-spec = tie.close (tie.spec sub-result cast-result shl-result sub-result-2 returns)
+without-service-spec = tie.close (tie.spec (λ c. search needs) (λ c. search needs) (λ c. search needs) sub-result-2 returns)

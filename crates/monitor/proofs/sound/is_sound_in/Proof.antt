@@ -4,16 +4,10 @@ use Rattle.monitor.proofs.Checks.{too-many, links-bad, links-fine}
 use Rattle.monitor.proofs.sound.is_sound_in.Statement.{statement}
 use Rattle.monitor.proofs.sound.is_sound_in.Tie as tie
 
-count-requires : tie.Need-count-requires
-count-requires c κs = search needs
-
 returns : tie.Need-returns
 returns c =
     let n = c .before .count .ensures in
     sym (too-many (view (c .before .before .args .s .now)) (omega (arith, n, c .if1 .taken)))
-
-links-found-requires : tie.Need-links-found-requires
-links-found-requires c κs = search needs
 
 returns-2 : tie.Need-returns-2
 returns-2 c =
@@ -27,12 +21,6 @@ parties-found-requires c κs =
     let t = not-false _ (c .before .if2 .left) in
     (sym (l .ensures .0) ∙ t, l .ensures .1 t)
 
-last-link-requires : tie.Need-last-link-requires
-last-link-requires c κs = search needs
-
-last-tx-requires : tie.Need-last-tx-requires
-last-tx-requires c κs = search needs
-
 returns-3 : tie.Need-returns-3
 returns-3 c =
     let m = view (c .before .before .before .before .before .before .before .before .before .args .s .now) in
@@ -45,11 +33,11 @@ pub is-sound-in-spec : {M : Type 1} → statement M
 is-sound-in-spec =
     tie.close
     (tie.spec
-    count-requires
+    (λ c κs. search needs)
     returns
-    links-found-requires
+    (λ c κs. search needs)
     returns-2
     parties-found-requires
-    last-link-requires
-    last-tx-requires
+    (λ c κs. search needs)
+    (λ c κs. search needs)
     returns-3)

@@ -27,9 +27,6 @@ passed c = tested (c .before .before) ∙ not-false _ (c .if1 .left)
 small : (c : tie.Else1 Inv-loop μ-loop) → c .before .before .before .link-at .result .server < 16
 small c = server-small (c .before .before .before .link-at .result) (and-r (ltb (c .before .before .before .before .before .loop .prev) (c .before .before .before .link-at .result .number)) _ (passed c))
 
-count-requires : tie.Need-count-requires Inv-loop μ-loop
-count-requires c κs = search needs
-
 loop-holds : tie.Need-loop-holds Inv-loop μ-loop
 loop-holds c =
     let a = c .before in
@@ -40,9 +37,6 @@ loop-holds c =
 link-at-requires : tie.Need-link-at-requires Inv-loop μ-loop
 link-at-requires c κs = let n = c .before .loop .inv .0 in omega arith
 
-link-good-requires : tie.Need-link-good-requires Inv-loop μ-loop
-link-good-requires c κs = search needs
-
 returns : tie.Need-returns Inv-loop μ-loop
 returns c =
     let xs = c .before .before .before .before .before .before .before .args .s .now in
@@ -52,23 +46,11 @@ returns c =
     let k = link-read xs (v .i) (l .result) (omega arith) (omega arith) (l .ensures) in
     (sym (v .inv .2 ∙ link-failed _ _ _ _ _ k (tested (c .before .before) ∙ not-true _ (c .if1 .taken))), λ e. not-both e refl)
 
-cast-p : tie.Need-cast-p Inv-loop μ-loop
-cast-p c = search needs
-
 served-at-requires : tie.Need-served-at-requires Inv-loop μ-loop
 served-at-requires c κs = small (c .before)
 
-mul-found : tie.Need-mul-found Inv-loop μ-loop
-mul-found c = search needs
-
 element-write-found : tie.Need-element-write-found Inv-loop μ-loop
 element-write-found c = small (c .before .before .before .before .before)
-
-add-i : tie.Need-add-i Inv-loop μ-loop
-add-i c = search needs
-
-loop-less : tie.Need-loop-less Inv-loop μ-loop
-loop-less c = search needs
 
 loop-again : tie.Need-loop-again Inv-loop μ-loop
 loop-again c =
@@ -93,9 +75,6 @@ loop-again c =
       λ p h. sym (found-next p (d p) _ _ _ _ _ k (next p)) ∙ v .inv .4 p h,
     )
 
-last-link-requires : tie.Need-last-link-requires Inv-loop μ-loop
-last-link-requires c κs = search needs
-
 returns-2 : tie.Need-returns-2 Inv-loop μ-loop
 returns-2 c =
     let xs = c .before .before .before .before .args .s .now in
@@ -110,17 +89,17 @@ links-found-spec =
     (tie.spec
     Inv-loop
     μ-loop
-    count-requires
+    (λ c κs. search needs)
     loop-holds
     link-at-requires
-    link-good-requires
+    (λ c κs. search needs)
     returns
-    cast-p
+    (λ c. search needs)
     served-at-requires
-    mul-found
+    (λ c. search needs)
     element-write-found
-    add-i
-    loop-less
+    (λ c. search needs)
+    (λ c. search needs)
     loop-again
-    last-link-requires
+    (λ c κs. search needs)
     returns-2)

@@ -30,28 +30,10 @@ tested c =
 loop-holds : tie.Need-loop-holds Inv-loop μ-loop
 loop-holds c = (search needs, refl)
 
-party-at-requires : tie.Need-party-at-requires Inv-loop μ-loop
-party-at-requires c κs = search needs
-
-choices-good-requires : tie.Need-choices-good-requires Inv-loop μ-loop
-choices-good-requires c κs = search needs
-
-mul-d : tie.Need-mul-d Inv-loop μ-loop
-mul-d c = search needs
-
-element-copy-out-d : tie.Need-element-copy-out-d Inv-loop μ-loop
-element-copy-out-d c = search needs
-
 returns : tie.Need-returns Inv-loop μ-loop
 returns c =
     let v = c .before .before .before .before .before .before .loop in
     sym (v .inv .1 ∙ party-failed _ _ _ _ _ (rest (c .before .before .before .before)) (tested (c .before .before .before) ∙ not-true _ (c .if1 .taken)))
-
-add-p : tie.Need-add-p Inv-loop μ-loop
-add-p c = search needs
-
-loop-less : tie.Need-loop-less Inv-loop μ-loop
-loop-less c = search needs
 
 loop-again : tie.Need-loop-again Inv-loop μ-loop
 loop-again c =
@@ -71,12 +53,12 @@ parties-found-spec =
     Inv-loop
     μ-loop
     loop-holds
-    party-at-requires
-    choices-good-requires
-    mul-d
-    element-copy-out-d
+    (λ c κs. search needs)
+    (λ c κs. search needs)
+    (λ c. search needs)
+    (λ c. search needs)
     returns
-    add-p
-    loop-less
+    (λ c. search needs)
+    (λ c. search needs)
     loop-again
     returns-2)

@@ -10,27 +10,6 @@ begins m p last now d q l n e h =
     let k = h ∙ ap₂ deadlineOf n (ap (λ (x : Party). x .timeout) e) in
     (λ z. withParty (withLastTx m (l z + 1)) p (owning (e z) (l z + 1) (k z)))
 
-last-tx-requires : tie.Need-last-tx-requires
-last-tx-requires c κs = search needs
-
-add-t : tie.Need-add-t
-add-t c = search needs
-
-clock-requires : tie.Need-clock-requires
-clock-requires c κs = search needs
-
-party-at-requires : tie.Need-party-at-requires
-party-at-requires c κs = search needs
-
-deadline-requires : tie.Need-deadline-requires
-deadline-requires c κs = search needs
-
-set-last-tx-requires : tie.Need-set-last-tx-requires
-set-last-tx-requires c κs = search needs
-
-put-party-requires : tie.Need-put-party-requires
-put-party-requires c κs = search needs
-
 returns : tie.Need-returns
 returns c =
     let a = c .before .before .before .before .before .before .before .before .before .before .before .args in
@@ -49,11 +28,11 @@ pub begin-tx-spec : {M : Type 1} → statement M
 begin-tx-spec =
     tie.close
     (tie.spec
-    last-tx-requires
-    add-t
-    clock-requires
-    party-at-requires
-    deadline-requires
-    set-last-tx-requires
-    put-party-requires
+    (λ c κs. search needs)
+    (λ c. search needs)
+    (λ c κs. search needs)
+    (λ c κs. search needs)
+    (λ c κs. search needs)
+    (λ c κs. search needs)
+    (λ c κs. search needs)
     returns)

@@ -3,15 +3,6 @@ use Rattle.monitor.proofs.Usual.{ap, ap₂, sym, _∙_, Bool, not, _&&_
 use Rattle.monitor.proofs.transaction.can_commit.Statement.{statement}
 use Rattle.monitor.proofs.transaction.can_commit.Tie as tie
 
-party-at-requires : tie.Need-party-at-requires
-party-at-requires c κs = search needs
-
-clock-requires : tie.Need-clock-requires
-clock-requires c κs = search needs
-
-is-late-requires : tie.Need-is-late-requires
-is-late-requires c κs = search needs
-
 has-open-end-requires : tie.Need-has-open-end-requires
 has-open-end-requires c κs =
     let s = c .before .before .before in
@@ -29,4 +20,4 @@ returns c =
 pub can-commit-spec : {M : Type 1} → statement M
 can-commit-spec =
     tie.close
-    (tie.spec party-at-requires clock-requires is-late-requires has-open-end-requires returns)
+    (tie.spec (λ c κs. search needs) (λ c κs. search needs) (λ c κs. search needs) has-open-end-requires returns)

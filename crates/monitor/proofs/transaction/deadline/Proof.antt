@@ -8,12 +8,9 @@ returns : tie.Need-returns
 unfolding deadlineOf
 returns c = sym (pick-true _ _ _ (eq-eqb _ _ (c .if1 .taken)))
 
-add-result : tie.Need-add-result
-add-result c = search needs
-
 returns-2 : tie.Need-returns-2
 unfolding deadlineOf
 returns-2 c = sym (pick-false _ _ _ (ne-eqb _ _ (c .if1 .left)))
 
 pub deadline-spec : {M : Type 1} → statement M
-deadline-spec = tie.close (tie.spec returns add-result returns-2)
+deadline-spec = tie.close (tie.spec returns (λ c. search needs) returns-2)

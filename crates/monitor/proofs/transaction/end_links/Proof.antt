@@ -37,29 +37,11 @@ Inv-loop s₀ t from len i₀ j₀ s i j = (len ≡ view s₀ .count) × Sweeps 
 abbrev μ-loop : tie.MeasureT-loop
 μ-loop s₀ t from len i₀ j₀ s i j = len - i
 
-count-requires : tie.Need-count-requires Inv-loop μ-loop
-count-requires c κs = search needs
-
 loop-holds : tie.Need-loop-holds Inv-loop μ-loop
 loop-holds c =
     let s = c .before .before in
     let t = s .args .t in
     (c .count .ensures, sweep-first (endOf t) (ofTx t) (others-stay t) (s .args .s .now) (s .args .from) (s .pre .1) (s .pre .0) (s .pre .2))
-
-link-at-requires : tie.Need-link-at-requires Inv-loop μ-loop
-link-at-requires c κs = search needs
-
-put-link-requires : tie.Need-put-link-requires Inv-loop μ-loop
-put-link-requires c κs = search needs
-
-add-i : tie.Need-add-i Inv-loop μ-loop
-add-i c = search needs
-
-add-j : tie.Need-add-j Inv-loop μ-loop
-add-j c = search needs
-
-loop-less : tie.Need-loop-less Inv-loop μ-loop
-loop-less c = search needs
 
 loop-again : tie.Need-loop-again Inv-loop μ-loop
 loop-again c =
@@ -68,21 +50,6 @@ loop-again c =
     let e = v .inv .0 in
     (e, sweep-put (v .inv .1) (omega arith) (l .ensures) _ (c .put-link .ensures) (stays _ _ (c .before .before .if1 .taken)))
 
-orphan-requires : tie.Need-orphan-requires Inv-loop μ-loop
-orphan-requires c κs = search needs
-
-put-link-requires-2 : tie.Need-put-link-requires-2 Inv-loop μ-loop
-put-link-requires-2 c κs = search needs
-
-add-i-2 : tie.Need-add-i-2 Inv-loop μ-loop
-add-i-2 c = search needs
-
-add-j-2 : tie.Need-add-j-2 Inv-loop μ-loop
-add-j-2 c = search needs
-
-loop-less-2 : tie.Need-loop-less-2 Inv-loop μ-loop
-loop-less-2 c = search needs
-
 loop-again-2 : tie.Need-loop-again-2 Inv-loop μ-loop
 loop-again-2 c =
     let v = c .before .before .before .before .before .before .before .before .before .before .loop in
@@ -90,21 +57,12 @@ loop-again-2 c =
     let e = v .inv .0 in
     (e, sweep-put (v .inv .1) (omega arith) (l .ensures) _ (c .put-link2 .ensures) (orphans _ _ _ (c .before .before .before .before .before .if1 .left) (c .before .before .before .if2 .taken) (c .before .before .orphan .ensures)))
 
-add-i-3 : tie.Need-add-i-3 Inv-loop μ-loop
-add-i-3 c = search needs
-
-loop-less-3 : tie.Need-loop-less-3 Inv-loop μ-loop
-loop-less-3 c = search needs
-
 loop-again-3 : tie.Need-loop-again-3 Inv-loop μ-loop
 loop-again-3 c =
     let v = c .before .before .before .before .before .before .before .loop in
     let l = c .before .before .before .before .link-at in
     let e = v .inv .0 in
     (e, sweep-drop (v .inv .1) (omega arith) (l .ensures) (goes _ _ (c .before .before .if1 .left) (c .if2 .left)))
-
-keep-first-requires : tie.Need-keep-first-requires Inv-loop μ-loop
-keep-first-requires c κs = search needs
 
 returns : tie.Need-returns Inv-loop μ-loop
 returns c =
@@ -118,22 +76,22 @@ end-links-spec =
     (tie.spec
     Inv-loop
     μ-loop
-    count-requires
+    (λ c κs. search needs)
     loop-holds
-    link-at-requires
-    put-link-requires
-    add-i
-    add-j
-    loop-less
+    (λ c κs. search needs)
+    (λ c κs. search needs)
+    (λ c. search needs)
+    (λ c. search needs)
+    (λ c. search needs)
     loop-again
-    orphan-requires
-    put-link-requires-2
-    add-i-2
-    add-j-2
-    loop-less-2
+    (λ c κs. search needs)
+    (λ c κs. search needs)
+    (λ c. search needs)
+    (λ c. search needs)
+    (λ c. search needs)
     loop-again-2
-    add-i-3
-    loop-less-3
+    (λ c. search needs)
+    (λ c. search needs)
     loop-again-3
-    keep-first-requires
+    (λ c κs. search needs)
     returns)

@@ -4,12 +4,6 @@ use Rattle.rules.specs.Record.{rebuilt}
 use Rattle.monitor.proofs.transaction.end_tx.Statement.{statement}
 use Rattle.monitor.proofs.transaction.end_tx.Tie as tie
 
-party-at-requires : tie.Need-party-at-requires
-party-at-requires c κs = search needs
-
-put-party-requires : tie.Need-put-party-requires
-put-party-requires c κs = search needs
-
 end-links-requires : tie.Need-end-links-requires
 end-links-requires c κs =
     let s = c .before .before .before .before .before in
@@ -30,4 +24,4 @@ returns c =
     )
 
 pub end-tx-spec : {M : Type 1} → statement M
-end-tx-spec = tie.close (tie.spec party-at-requires put-party-requires end-links-requires returns)
+end-tx-spec = tie.close (tie.spec (λ c κs. search needs) (λ c κs. search needs) end-links-requires returns)

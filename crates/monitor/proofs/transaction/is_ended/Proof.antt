@@ -7,9 +7,6 @@ returns : tie.Need-returns
 unfolding ended
 returns c = ap (λ (b : Bool). not b && not (anyOf (owns (c .before .args .t)) (view (c .before .args .s .now) .parties))) (sym (eq-eqb _ _ (c .if1 .taken)))
 
-owner-requires : tie.Need-owner-requires
-owner-requires c κs = search needs
-
 returns-2 : tie.Need-returns-2
 unfolding ended
 returns-2 c =
@@ -20,4 +17,4 @@ returns-2 c =
     ap not e ∙ ap (λ (b : Bool). not b && not (anyOf (owns (a .t)) ps)) (sym (ne-eqb _ _ (c .before .if1 .left)))
 
 pub is-ended-spec : {M : Type 1} → statement M
-is-ended-spec = tie.close (tie.spec returns owner-requires returns-2)
+is-ended-spec = tie.close (tie.spec returns (λ c κs. search needs) returns-2)

@@ -8,18 +8,6 @@ returns : tie.Need-returns
 unfolding expired
 returns c = sym (pick-true _ _ _ (eq-eqb _ _ (c .if1 .taken)))
 
-owner-requires : tie.Need-owner-requires
-owner-requires c κs = search needs
-
-party-at-requires : tie.Need-party-at-requires
-party-at-requires c κs = search needs
-
-clock-requires : tie.Need-clock-requires
-clock-requires c κs = search needs
-
-is-late-requires : tie.Need-is-late-requires
-is-late-requires c κs = search needs
-
 returns-2 : tie.Need-returns-2
 unfolding expired
 returns-2 c =
@@ -48,9 +36,9 @@ is-expired-spec =
     tie.close
     (tie.spec
     returns
-    owner-requires
-    party-at-requires
-    clock-requires
-    is-late-requires
+    (λ c κs. search needs)
+    (λ c κs. search needs)
+    (λ c κs. search needs)
+    (λ c κs. search needs)
     returns-2
     returns-3)

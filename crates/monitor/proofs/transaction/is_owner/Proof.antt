@@ -3,12 +3,6 @@ use Rattle.monitor.proofs.Usual.{ℕ, ap, _∙_, not, _&&_, needs, eqb,
 use Rattle.monitor.proofs.transaction.is_owner.Statement.{statement}
 use Rattle.monitor.proofs.transaction.is_owner.Tie as tie
 
-owned-at-requires : tie.Need-owned-at-requires
-owned-at-requires c κs = search needs
-
-owner-requires : tie.Need-owner-requires
-owner-requires c κs = search needs
-
 returns : tie.Need-returns
 unfolding isOwner same
 returns c =
@@ -19,4 +13,4 @@ returns c =
     ∙ ap (λ (k : ℕ). not (eqb k 0) && eqb (firstOf (owns k) ps) (a .p)) (t .ensures)
 
 pub is-owner-spec : {M : Type 1} → statement M
-is-owner-spec = tie.close (tie.spec owned-at-requires owner-requires returns)
+is-owner-spec = tie.close (tie.spec (λ c κs. search needs) (λ c κs. search needs) returns)

@@ -8,15 +8,6 @@ returns : tie.Need-returns
 unfolding rollbackOnlyIn
 returns c = (ap (withParties (view (c .before .args .s .now))) (sym (pick-true _ _ _ (eq-eqb _ _ (c .if1 .taken)))), c .before .pre)
 
-owner-requires : tie.Need-owner-requires
-owner-requires c κs = search needs
-
-party-at-requires : tie.Need-party-at-requires
-party-at-requires c κs = search needs
-
-put-party-requires : tie.Need-put-party-requires
-put-party-requires c κs = search needs
-
 returns-2 : tie.Need-returns-2
 unfolding rollbackOnlyIn
 returns-2 c =
@@ -48,4 +39,4 @@ returns-3 c =
 pub set-rollback-only-spec : {M : Type 1} → statement M
 set-rollback-only-spec =
     tie.close
-    (tie.spec returns owner-requires party-at-requires put-party-requires returns-2 returns-3)
+    (tie.spec returns (λ c κs. search needs) (λ c κs. search needs) (λ c κs. search needs) returns-2 returns-3)

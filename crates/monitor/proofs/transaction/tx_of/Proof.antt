@@ -11,9 +11,6 @@ by-served : (m : Monitor) (owned served : ℕ) → owned ≡ 0 → (served ≡ 0
 unfolding servedTx
 by-served m owned served e h = sym (pick-true _ _ _ (eq-eqb _ _ e) ∙ pick-false _ _ _ (ne-eqb _ _ h))
 
-owned-at-requires : tie.Need-owned-at-requires
-owned-at-requires c κs = search needs
-
 returns : tie.Need-returns
 unfolding txOf
 returns c =
@@ -21,24 +18,12 @@ returns c =
     let m = view (a .s .now) in
     sym (pick-false _ _ _ (ne-eqb _ _ (c .if1 .taken))) ∙ ap (λ (t : ℕ). txBy m t (party m (a .p) .served)) (c .before .owned-at .ensures)
 
-served-at-requires : tie.Need-served-at-requires
-served-at-requires c κs = search needs
-
 returns-2 : tie.Need-returns-2
 unfolding txOf servedTx
 returns-2 c =
     let m = view (c .before .before .before .before .args .s .now) in
     sym (pick-true _ _ _ (eq-eqb _ _ (c .before .before .if1 .left)) ∙ pick-true _ _ _ (eq-eqb _ _ (c .if2 .taken)))
     ∙ ap₂ (txBy m) (c .before .before .before .owned-at .ensures) (c .before .served-at .ensures)
-
-place-of-requires : tie.Need-place-of-requires
-place-of-requires c κs = search needs
-
-count-requires : tie.Need-count-requires
-count-requires c κs = search needs
-
-tx-at-requires : tie.Need-tx-at-requires
-tx-at-requires c κs = search needs
 
 returns-3 : tie.Need-returns-3
 unfolding txOf
@@ -72,12 +57,12 @@ pub tx-of-spec : {M : Type 1} → statement M
 tx-of-spec =
     tie.close
     (tie.spec
-    owned-at-requires
+    (λ c κs. search needs)
     returns
-    served-at-requires
+    (λ c κs. search needs)
     returns-2
-    place-of-requires
-    count-requires
-    tx-at-requires
+    (λ c κs. search needs)
+    (λ c κs. search needs)
+    (λ c κs. search needs)
     returns-3
     returns-4)
