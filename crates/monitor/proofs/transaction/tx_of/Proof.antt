@@ -1,5 +1,5 @@
 -- `transaction::tx_of` meets its contract.
-use Rattle.monitor.proofs.Usual.{ℕ, _≡_, ap, ap₂, sym, _∙_, arith, needs, eq-eqb, ne-eqb, Link, Monitor, pick, freshLink, party, linkOf, servedTx, txOf, view, pick-true, pick-false, eqb, live-past, links-long, live-in, live-of}
+use Rattle.monitor.proofs.Usual.{ℕ, _≡_, ap, ap₂, sym, _∙_, arith, needs, eq-eqb, ne-eqb, eqb, Link, Monitor, pick, party, linkOf, servedTx, txOf, view, pick-true, pick-false, there, nowhere}
 use Rattle.monitor.proofs.transaction.tx_of.Statement.{statement}
 use Rattle.monitor.proofs.transaction.tx_of.Tie as tie
 
@@ -30,28 +30,25 @@ unfolding txOf
 returns-3 c =
     let s = c .before .before .before .before .before .before .before .before in
     let m = view (s .args .s .now) in
-    let o = c .before .before .before .before .before .before .before .owned-at in
-    let d = c .before .before .before .before .before .served-at in
+    let owned = c .before .before .before .before .before .before .before .owned-at in
+    let served = c .before .before .before .before .before .served-at in
     let i = c .before .before .before .place-of in
-    let n = c .before .before .count .ensures in
     c .tx-at .ensures
-    ∙ ap (λ (l : Link). l .tx) (sym (live-in (s .args .s .now) (i .result) (s .pre .1) (omega arith)) ∙ live-of m (d .result) (i .result) (i .ensures))
-    ∙ by-served m (o .result) (d .result) (c .before .before .before .before .before .before .if1 .left) (c .before .before .before .before .if2 .left)
-    ∙ ap₂ (txBy m) (o .ensures) (d .ensures)
+    ∙ ap (λ (l : Link). l .tx) (there (s .args .s .now) (served .result) (i .result) (i .ensures) (s .pre .1) (omega arith))
+    ∙ by-served m (owned .result) (served .result) (c .before .before .before .before .before .before .if1 .left) (c .before .before .before .before .if2 .left)
+    ∙ ap₂ (txBy m) (owned .ensures) (served .ensures)
 
 returns-4 : tie.Need-returns-4
 unfolding txOf
 returns-4 c =
     let s = c .before .before .before .before .before .before .before in
     let m = view (s .args .s .now) in
-    let o = c .before .before .before .before .before .before .owned-at in
-    let d = c .before .before .before .before .served-at in
+    let owned = c .before .before .before .before .before .before .owned-at in
+    let served = c .before .before .before .before .served-at in
     let i = c .before .before .place-of in
-    let n = c .before .count .ensures in
-    let k = links-long 32 0 (s .args .s .now) in
-    ap (λ (l : Link). l .tx) (sym (live-past (m .count) (m .links) (i .result) freshLink (omega arith) (omega arith)) ∙ live-of m (d .result) (i .result) (i .ensures))
-    ∙ by-served m (o .result) (d .result) (c .before .before .before .before .before .if1 .left) (c .before .before .before .if2 .left)
-    ∙ ap₂ (txBy m) (o .ensures) (d .ensures)
+    ap (λ (l : Link). l .tx) (sym (nowhere (s .args .s .now) (served .result) (i .result) (i .ensures) (s .pre .1) (omega arith)))
+    ∙ by-served m (owned .result) (served .result) (c .before .before .before .before .before .if1 .left) (c .before .before .before .if2 .left)
+    ∙ ap₂ (txBy m) (owned .ensures) (served .ensures)
 
 pub tx-of-spec : {M : Type 1} → statement M
 tx-of-spec =

@@ -5,30 +5,6 @@ use Rattle.monitor.proofs.Put.{set-last-link-law, set-count-law}
 use Rattle.monitor.proofs.words.add_link.Statement.{statement}
 use Rattle.monitor.proofs.words.add_link.Tie as tie
 
-count-requires : tie.Need-count-requires
-count-requires c κs = search needs
-
-last-link-requires : tie.Need-last-link-requires
-last-link-requires c κs = search needs
-
-put-link-requires : tie.Need-put-link-requires
-put-link-requires c κs = search needs
-
-add-s : tie.Need-add-s
-add-s c = search needs
-
-element-write-s : tie.Need-element-write-s
-element-write-s c = search needs
-
-cast-s : tie.Need-cast-s
-cast-s c = search needs
-
-add-s-2 : tie.Need-add-s-2
-add-s-2 c = search needs
-
-element-write-s-2 : tie.Need-element-write-s-2
-element-write-s-2 c = search needs
-
 returns : tie.Need-returns
 returns c =
     let a = c .before .before .before .before .before .before .args in
@@ -48,12 +24,12 @@ pub add-link-spec : {M : Type 1} → statement M
 add-link-spec =
     tie.close
     (tie.spec
-    count-requires
-    last-link-requires
-    put-link-requires
-    add-s
-    element-write-s
-    cast-s
-    add-s-2
-    element-write-s-2
+    (λ c κs. search needs)
+    (λ c κs. search needs)
+    (λ c κs. search needs)
+    (λ c. search needs)
+    (λ c. search needs)
+    (λ c. search needs)
+    (λ c. search needs)
+    (λ c. search needs)
     returns)

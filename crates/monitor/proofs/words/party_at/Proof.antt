@@ -3,15 +3,6 @@ use Rattle.monitor.proofs.Usual.{_≡_, sym, _∙_, needs, partyAt, par
 use Rattle.monitor.proofs.words.party_at.Statement.{statement}
 use Rattle.monitor.proofs.words.party_at.Tie as tie
 
-read-services-requires : tie.Need-read-services-requires
-read-services-requires c κs = search needs
-
-read-deadline-requires : tie.Need-read-deadline-requires
-read-deadline-requires c κs = search needs
-
-read-party-requires : tie.Need-read-party-requires
-read-party-requires c κs = search needs
-
 returns : tie.Need-returns
 unfolding partyAt
 returns c =
@@ -20,4 +11,4 @@ returns c =
     e ∙ sym (party-law (s .args .s .now) (s .args .p) (s .pre))
 
 pub party-at-spec : {M : Type 1} → statement M
-party-at-spec = tie.close (tie.spec read-services-requires read-deadline-requires read-party-requires returns)
+party-at-spec = tie.close (tie.spec (λ c κs. search needs) (λ c κs. search needs) (λ c κs. search needs) returns)

@@ -7,9 +7,6 @@ use Rattle.monitor.proofs.Put.{put-link-law}
 use Rattle.monitor.proofs.words.put_link.Statement.{statement}
 use Rattle.monitor.proofs.words.put_link.Tie as tie
 
-store-link-requires : tie.Need-store-link-requires
-store-link-requires c κs = search needs
-
 returns : tie.Need-returns
 returns c =
     let a = c .before .before .args in
@@ -17,4 +14,4 @@ returns c =
     put-link-law (a .s .now) (a .i) (a .l) (c .before .before .pre .1) (c .before .before .pre .0) u _ (c .store-link .ensures)
 
 pub put-link-spec : {M : Type 1} → statement M
-put-link-spec = tie.close (tie.spec store-link-requires returns)
+put-link-spec = tie.close (tie.spec (λ c κs. search needs) returns)

@@ -5,21 +5,6 @@ use Rattle.monitor.proofs.Put.{whole, put-party-law}
 use Rattle.monitor.proofs.words.put_party.Statement.{statement}
 use Rattle.monitor.proofs.words.put_party.Tie as tie
 
-low-requires : tie.Need-low-requires
-low-requires c κs = search needs
-
-high-requires : tie.Need-high-requires
-high-requires c κs = search needs
-
-low-requires-2 : tie.Need-low-requires-2
-low-requires-2 c κs = search needs
-
-high-requires-2 : tie.Need-high-requires-2
-high-requires-2 c κs = search needs
-
-store-party-requires : tie.Need-store-party-requires
-store-party-requires c κs = search needs
-
 returns : tie.Need-returns
 returns c =
     let dh = c .before .before .high2 in
@@ -33,4 +18,4 @@ returns c =
 
 pub put-party-spec : {M : Type 1} → statement M
 put-party-spec =
-    tie.close (tie.spec low-requires high-requires low-requires-2 high-requires-2 store-party-requires returns)
+    tie.close (tie.spec (λ c κs. search needs) (λ c κs. search needs) (λ c κs. search needs) (λ c κs. search needs) (λ c κs. search needs) returns)

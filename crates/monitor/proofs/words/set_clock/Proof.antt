@@ -5,11 +5,8 @@ use Rattle.monitor.proofs.Put.{set-clock-law}
 use Rattle.monitor.proofs.words.set_clock.Statement.{statement}
 use Rattle.monitor.proofs.words.set_clock.Tie as tie
 
-element-write-s : tie.Need-element-write-s
-element-write-s c = search needs
-
 returns : tie.Need-returns
 returns c = (set-clock-law (c .args .s .now) (c .args .t) (c .pre), length-set (c .args .s .now) 0 (c .args .t) ∙ c .pre)
 
 pub set-clock-spec : {M : Type 1} → statement M
-set-clock-spec = tie.close (tie.spec element-write-s returns)
+set-clock-spec = tie.close (tie.spec (λ c. search needs) returns)

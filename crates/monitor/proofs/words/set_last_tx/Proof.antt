@@ -5,11 +5,8 @@ use Rattle.monitor.proofs.Put.{set-last-tx-law}
 use Rattle.monitor.proofs.words.set_last_tx.Statement.{statement}
 use Rattle.monitor.proofs.words.set_last_tx.Tie as tie
 
-element-write-s : tie.Need-element-write-s
-element-write-s c = search needs
-
 returns : tie.Need-returns
 returns c = (set-last-tx-law (c .args .s .now) (c .args .t) (c .pre), length-set (c .args .s .now) 2 (c .args .t) ∙ c .pre)
 
 pub set-last-tx-spec : {M : Type 1} → statement M
-set-last-tx-spec = tie.close (tie.spec element-write-s returns)
+set-last-tx-spec = tie.close (tie.spec (λ c. search needs) returns)
