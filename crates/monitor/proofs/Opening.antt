@@ -11,13 +11,14 @@ use mir.Syntax.{w64}
 use mir.Val.{toZ, ofZ}
 use Rattle.rules.specs.Choice.{pick}
 use Rattle.rules.specs.Lists.{anyOf}
+use Rattle.rules.specs.Codes.{badArgument}
 use Rattle.rules.specs.Record.{ruled, valued, ask}
 use Rattle.rules.specs.Requests.{askLink, linkLeft}
 use Rattle.rules.specs.Services.{offers}
 use Rattle.rules.specs.Transaction.{ended, expired}
 use Rattle.rules.specs.declared.Monitor.{Monitor}
 use Rattle.rules.specs.declared.Ruled.{Ruled}
-use Rattle.rules.proofs.Logic.{pick-true, and-l, and-r}
+use Rattle.rules.proofs.Logic.{pick-true, pick-false, and-l, and-r}
 use Rattle.monitor.specs.declared.Told.{Told}
 use Rattle.monitor.specs.View.{ruledBy, toldCode}
 use Rattle.monitor.proofs.Telling.{code-told}
@@ -49,10 +50,24 @@ module _ (m : Monitor) (t a : ℕ) {code : ℤ} (e : Asked m t a code) where
       let e2 = passes m (not (expired m t)) 27 _ (e1 .1) in
       let e3 = passes m (anyOf (offers a) (m .parties)) 24 _ (e2 .1) in
       let e4 = passes m (linkLeft m) 25 _ (e3 .1) in
-      (ltb-true _ _ (and-l (ltb (m .count) 32) _ (e4 .0)), ltb-true _ _ (and-r (ltb (m .count) 32) _ (e4 .0)), λ rest. pick-true _ _ _ (e1 .0) ∙ pick-true _ _ _ (e2 .0) ∙ pick-true _ _ _ (e3 .0) ∙ pick-true _ _ _ (e4 .0))
+      let left = and-l (ltb (m .count) 32) _ (e4 .0) in
+      let numbers = and-r (ltb (m .count) 32) _ (e4 .0) in
+      (ltb-true _ _ left, ltb-true _ _ numbers, λ rest. pick-true _ _ _ (e1 .0) ∙ pick-true _ _ _ (e2 .0) ∙ pick-true _ _ _ (e3 .0) ∙ pick-true _ _ _ (e4 .0))
 
-  pub one-stops : {r : Told} → (ofZ w64 code ≡ 0 → ⊥) → r ≡ toldCode (toZ w64 (ofZ w64 code)) → (rest : Ruled) → ruledBy r m ≡ askLink m t a rest
+  one-stops : {r : Told} → (ofZ w64 code ≡ 0 → ⊥) → r ≡ toldCode (toZ w64 (ofZ w64 code)) → (rest : Ruled) → ruledBy r m ≡ askLink m t a rest
   unfolding askLink
   one-stops h r rest =
       let k = stops m (not (ended m t)) 22 _ _ (stops m (not (expired m t)) 27 _ _ (stops m (anyOf (offers a) (m .parties)) 24 _ _ (stops m (linkLeft m) 25 _ rest (λ n. absurd (n refl))))) in
       code-told m r ∙ ap (ruled m) (e .1 ∙ e .0) ∙ sym (k (λ n. h (ap (ofZ w64) (e .0 ∙ n))))
+
+-- ---- a rule that asks q first, of the service and the flags, and then all of those
+module _ (m : Monitor) (t a : ℕ) (q : Bool) (rest : Ruled) where
+  pub not-good : {r : Told} → q ≡ false → r ≡ toldCode badArgument → ruledBy r m ≡ ask m q badArgument (askLink m t a rest)
+  not-good g r = code-told m r ∙ sym (pick-false _ _ _ g)
+
+  module _ (g : q ≡ true) {code : ℤ} (e : Asked m t a code) where
+    pub stopped : {r : Told} → (ofZ w64 code ≡ 0 → ⊥) → r ≡ toldCode (toZ w64 (ofZ w64 code)) → ruledBy r m ≡ ask m q badArgument (askLink m t a rest)
+    stopped h r = one-stops m t a e h r rest ∙ sym (pick-true _ _ _ g)
+
+    pub opened : ofZ w64 code ≡ 0 → rest ≡ ask m q badArgument (askLink m t a rest)
+    opened h = sym (pick-true _ _ _ g ∙ all-pass m t a e h .2 rest)

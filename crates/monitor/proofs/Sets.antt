@@ -1,4 +1,4 @@
--- Laws of a set of services: which numbers are services, how many a set has, and the bit of one.
+-- Laws of a set of services: which numbers are services, and a rule on one; how many a set has, and the bit of one.
 -- Assumes nothing.
 use Prim.Native.Nat.{ℕ, zero, suc, _+_, _-_, _*_, _/_, _%_, _^_, _≤_, _<_}
 use mathlib.Core.Path.{_≡_, refl, ap, ap₂, sym, _∙_}
@@ -9,7 +9,13 @@ use borrow.Author.Tests.{le-leb, lt-leb, eqb-true, eqb-false}
 use lib.Dec.{eqb, leb, lit<}
 use lib.Count.{ones, ones-cat}
 use lib.Pow.{mod-pow-add, pow-add, pow-pos, shl-exact, shr-lt, split}
+use Rattle.rules.specs.declared.Party.{Party}
+use Rattle.rules.specs.declared.Monitor.{Monitor}
+use Rattle.rules.specs.declared.Ruled.{Ruled}
+use Rattle.rules.specs.Codes.{badArgument}
+use Rattle.rules.specs.Record.{party, ask}
 use Rattle.rules.specs.Services.{isService, bitOf, inSet, countTo, offered}
+use Rattle.rules.proofs.Logic.{pick-true}
 
 -- ---- which numbers are services
 pub below-services : (a : ℕ) → a < 1 → isService a ≡ false
@@ -20,6 +26,10 @@ above-services a h = ap (λ (b : Bool). b && leb a 64) (le-leb 1 a (omega arith)
 
 pub within-services : (a : ℕ) → 1 ≤ a → a ≤ 64 → isService a ≡ true
 within-services a l h = ap (λ (b : Bool). b && leb a 64) (le-leb 1 a l) ∙ le-leb a 64 h
+
+-- a rule on a service and on what party p offers, past the first question, of the party q that was read
+pub of-service : (m : Monitor) (p a : ℕ) (rest : Party → Ruled) {q : Party} → 1 ≤ a → a ≤ 64 → q ≡ party m p → ask m (isService a) badArgument (rest (party m p)) ≡ rest q
+of-service m p a rest l h e = pick-true _ _ _ (within-services a l h) ∙ ap rest (sym e)
 
 -- a set has no number that is no service
 pub in-set-as : (s a : ℕ) (b : Bool) → isService a ≡ b → inSet s a ≡ b && eqb (bitOf s a) 1

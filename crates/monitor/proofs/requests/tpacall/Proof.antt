@@ -1,37 +1,30 @@
 -- `requests::tpacall` meets its contract.
-use Rattle.monitor.proofs.Usual.{ℕ, _+_, _≡_, ap, ap₂, sym, _∙_, Bool, true, false, not, _&&_, needs, ℤ, w64, toZ, ofZ, eqb, leb, not-true, not-false, Monitor, Told, pick, added, valued, isService, txOf, linkTx, requestOf, view, ruledBy, toldCode, toldValue, pick-true, pick-false}
-use Rattle.rules.specs.Codes.{badArgument}
+use Rattle.monitor.proofs.Usual.{ℕ, _+_, _≡_, ap, ap₂, sym, _∙_, Bool, not, _&&_, needs, w64, toZ, ofZ, eqb, leb, not-true, not-false, Monitor, Ruled, Told, pick, added, valued}
+use Rattle.monitor.proofs.Usual.{isService, txOf, linkTx, requestOf, view, ruledBy, toldValue, pick-true, pick-false}
 use Rattle.rules.specs.Record.{newLink}
 use Rattle.rules.specs.Requests.{noReply}
-use Rattle.monitor.proofs.Opening.{Asked, asked, all-pass, one-stops}
-use Rattle.monitor.proofs.Telling.{code-told}
+use Rattle.monitor.proofs.Opening.{Asked, asked, all-pass, not-good, stopped, opened}
 use Rattle.monitor.proofs.requests.tpacall.Statement.{statement}
 use Rattle.monitor.proofs.requests.tpacall.Tie as tie
 
 abbrev isGood : Bool → ℕ → ℕ → Bool
 isGood service b t = service && (leb b 3 && not (eqb b 1 && not (eqb t 0)))
 
--- the rule, one law an outcome
+-- the record with the link, and what is told of it
+abbrev made : Monitor → ℕ → ℕ → ℕ → ℕ → ℕ → ℕ → Ruled
+made m p a c x t v = valued (added m (newLink (m .lastlink + 1) 0 p x a t c 0)) v
+
 module _ (m : Monitor) (p a b c : ℕ) where
-  refused : {r : Told} → isGood (isService a) b (txOf m p) ≡ false → r ≡ toldCode badArgument → ruledBy r m ≡ requestOf m p a b c
-  unfolding requestOf
-  refused g r = code-told m r ∙ sym (pick-false _ _ _ g)
+  abbrev requested : Ruled
+  requested = made m p a c (pick (noReply b) 0 1) (linkTx m p b) (pick (noReply b) 0 (m .lastlink + 1))
 
-  module _ (g : isGood (isService a) b (txOf m p) ≡ true) {code : ℤ} (e : Asked m (linkTx m p b) a code) where
-    stopped : {r : Told} → (ofZ w64 code ≡ 0 → ⊥) → r ≡ toldCode (toZ w64 (ofZ w64 code)) → ruledBy r m ≡ requestOf m p a b c
-    unfolding requestOf
-    stopped h r = one-stops m (linkTx m p b) a e h r _ ∙ sym (pick-true _ _ _ g)
-
-    opened : {n : Monitor} {x t v : ℕ} {r : Told} → ofZ w64 code ≡ 0 → n ≡ added m (newLink (m .lastlink + 1) 0 p x a t c 0) → x ≡ pick (noReply b) 0 1 → t ≡ linkTx m p b
-        → v ≡ pick (noReply b) 0 (m .lastlink + 1) → r ≡ toldValue v → ruledBy r n ≡ requestOf m p a b c
-    unfolding requestOf
-    opened h n x t v r =
-        ap₂ ruledBy r (n ∙ ap₂ (λ (x t : ℕ). added m (newLink (m .lastlink + 1) 0 p x a t c 0)) x t)
-        ∙ ap (valued _) v
-        ∙ sym (pick-true _ _ _ g ∙ all-pass m (linkTx m p b) a e h .2 _)
+  makes : {n : Monitor} {x t v : ℕ} {r : Told} → n ≡ added m (newLink (m .lastlink + 1) 0 p x a t c 0) → x ≡ pick (noReply b) 0 1 → t ≡ linkTx m p b
+      → v ≡ pick (noReply b) 0 (m .lastlink + 1) → r ≡ toldValue v → ruledBy r n ≡ requested
+  makes n x t v r = ap₂ ruledBy r n ∙ (λ z. made m p a c (x z) (t z) (v z))
 
 -- the first question, of the service and the flags
-good : (c : tie.After-is-service) → let a = c .before .before .before .args in isGood (isService (a .a)) (a .b) (txOf (view (a .s .now)) (a .p)) ≡ isGood (c .is-service .result) (a .b) (c .before .tx-of .result)
+good : (c : tie.After-is-service) → let a = c .before .before .before .args in
+    isGood (isService (a .a)) (a .b) (txOf (view (a .s .now)) (a .p)) ≡ isGood (c .is-service .result) (a .b) (c .before .tx-of .result)
 good c = sym (ap₂ (λ (s : Bool) (t : ℕ). isGood s (c .before .before .before .args .b) t) (c .is-service .ensures) (c .before .tx-of .ensures))
 
 -- those after it
@@ -42,22 +35,28 @@ answer c =
     asked _ _ (r .ensures) (c .before .before .link-tx .ensures) z
 
 -- past them, the link is there
-told : (c : tie.After-no-reply) {v : ℕ} {r : Told} → let a = c .before .before .before .before .before .before .before .before .before .before .before .before .before .args in let m = view (a .s .now) in v ≡ pick (noReply (a .b)) 0 (m .lastlink + 1) → r ≡ toldValue v → ruledBy r (view (c .before .open-link .last .0)) ≡ requestOf m (a .p) (a .a) (a .b) (a .c)
-told c =
+told : (c : tie.After-no-reply) {v : ℕ} {r : Told} → let a = c .before .before .before .before .before .before .before .before .before .before .before .before .before .args in let m = view (a .s .now) in
+    v ≡ pick (noReply (a .b)) 0 (m .lastlink + 1) → r ≡ toldValue v → ruledBy r (view (c .before .open-link .last .0)) ≡ requestOf m (a .p) (a .a) (a .b) (a .c)
+unfolding requestOf
+told c v r =
     let a = c .before .before .before .before .before .before .before .before .before .before .before .before .before .args in
-    opened (view (a .s .now)) (a .p) (a .a) (a .b) (a .c) (good (c .before .before .before .before .before .before .before .before .before .before) ∙ not-false _ (c .before .before .before .before .before .before .before .before .before .if1 .left)) (answer (c .before .before .before .before .before)) (c .before .before .before .before .if2 .left) (c .before .open-link .ensures .1) (c .before .before .before .open-end .ensures) (c .before .before .before .before .before .before .before .link-tx .ensures)
+    let m = view (a .s .now) in
+    let passes = good (c .before .before .before .before .before .before .before .before .before .before) ∙ not-false _ (c .before .before .before .before .before .before .before .before .before .if1 .left) in
+    makes m (a .p) (a .a) (a .b) (a .c) (c .before .open-link .ensures .1) (c .before .before .before .open-end .ensures) (c .before .before .before .before .before .before .before .link-tx .ensures) v r
+    ∙ opened m (linkTx m (a .p) (a .b)) (a .a) _ (requested m (a .p) (a .a) (a .b) (a .c)) passes (answer (c .before .before .before .before .before)) (c .before .before .before .before .if2 .left)
 
 returns : tie.Need-returns
-returns c =
-    let s = c .before .before .before .before .before in
-    let a = s .args in
-    (refused (view (a .s .now)) (a .p) (a .a) (a .b) (a .c) (good (c .before .before) ∙ not-true _ (c .before .if1 .taken)) (c .coded .ensures), s .pre .2)
+unfolding requestOf
+returns c = (not-good _ _ _ _ _ (good (c .before .before) ∙ not-true _ (c .before .if1 .taken)) (c .coded .ensures), c .before .before .before .before .before .pre .2)
 
 returns-2 : tie.Need-returns-2
+unfolding requestOf
 returns-2 c =
     let s = c .before .before .before .before .before .before .before .before .before .before in
     let a = s .args in
-    (stopped (view (a .s .now)) (a .p) (a .a) (a .b) (a .c) (good (c .before .before .before .before .before .before .before) ∙ not-false _ (c .before .before .before .before .before .before .if1 .left)) (answer (c .before .before)) (c .before .if2 .taken) (c .coded2 .ensures), s .pre .2)
+    let m = view (a .s .now) in
+    let passes = good (c .before .before .before .before .before .before .before) ∙ not-false _ (c .before .before .before .before .before .before .if1 .left) in
+    (stopped m _ _ _ (requested m (a .p) (a .a) (a .b) (a .c)) passes (answer (c .before .before)) (c .before .if2 .taken) (c .coded2 .ensures), s .pre .2)
 
 open-link-requires : tie.Need-open-link-requires
 open-link-requires c κs = let h = all-pass _ _ _ (answer (c .before .before .before)) (c .before .before .if2 .left) in search needs
