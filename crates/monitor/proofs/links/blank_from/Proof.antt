@@ -1,15 +1,6 @@
 -- `links::blank_from` meets its contract: the links from `from` up to i are fresh, and the rest is as at first.
--- Assumes nothing.
-use Prim.Native.Nat.{_-_, _≤_}
-use mathlib.Core.Path.{_≡_, ap, _∙_}
-use native.Mathlib.Omega.{arith}
-use borrow.Author.Needs.{needs}
-use lib.ListN.{length}
-use Rattle.rules.specs.declared.Monitor.{Monitor}
-use Rattle.rules.specs.Record.{replaced}
-use Rattle.monitor.specs.Words.{words}
-use Rattle.monitor.specs.View.{blanked, view}
-use Rattle.monitor.proofs.Laws.{links-long}
+use Rattle.monitor.proofs.Usual.{_-_, _≤_, _≡_, ap, _∙_, arith, needs, length, Monitor, replaced, words, view, links-long}
+use Rattle.monitor.specs.View.{blanked}
 use Rattle.monitor.proofs.Sweep.{blank-none, blank-more}
 use Rattle.monitor.proofs.links.blank_from.Statement.{statement}
 use Rattle.monitor.proofs.links.blank_from.Tie as tie
@@ -32,7 +23,8 @@ loop-again c =
     let v = c .before .before .before .loop in
     let x = c .before .before .before .before .fresh in
     let p = c .put-link .ensures in
-    (p .1, omega arith, omega arith, p .0 ∙ ap (λ (m : Monitor). replaced m (v .i) (x .result)) (v .inv .3) ∙ blank-more (view (a .s .now)) (a .from) (v .i) _ (links-long 32 0 _) (v .inv .1) (omega arith) (x .ensures))
+    let more = blank-more (view (a .s .now)) (a .from) (v .i) _ (links-long 32 0 _) (v .inv .1) (omega arith) (x .ensures) in
+    (p .1, omega arith, omega arith, p .0 ∙ ap (λ (m : Monitor). replaced m (v .i) (x .result)) (v .inv .3) ∙ more)
 
 returns : tie.Need-returns Inv-loop μ-loop
 returns c =

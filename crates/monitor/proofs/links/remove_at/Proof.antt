@@ -16,13 +16,24 @@ stays : (n : ℕ) (l : Link) → (l .number ≡ n → ⊥) → goneOf n l ≡ l 
 unfolding numbered
 stays n l h = others-stay n l (same-ne _ _ h)
 
+abbrev Inv-loop : tie.InvT-loop
+Inv-loop s₀ at n len i₀ j₀ s i j = Sweeps (goneOf n) s₀ (view s₀) s i j
+
+abbrev μ-loop : tie.MeasureT-loop
+μ-loop s₀ at n len i₀ j₀ s i j = len - i
+
+loop-again-2 : tie.Need-loop-again-2 Inv-loop μ-loop
+loop-again-2 c =
+    let l = c .before .before .before .before .link-at in
+    sweep-put (c .before .before .before .before .before .before .before .loop .inv) (omega arith) (l .ensures) _ (c .put-link .ensures) (stays _ _ (c .before .before .if1 .left))
+
 pub remove-at-spec : {M : Type 1} → statement M
 unfolding removed
 remove-at-spec =
     tie.close
     (tie.spec
-    (λ s₀ at n len i₀ j₀ s i j. Sweeps (goneOf n) s₀ (view s₀) s i j)
-    (λ s₀ at n len i₀ j₀ s i j. len - i)
+    Inv-loop
+    μ-loop
     (λ c κs. search needs)
     (λ c. let s = c .before .before in sweep-first _ (numbered _) (others-stay (s .args .n)) _ (s .args .at) (s .pre .1) (s .pre .0) (s .pre .2))
     (λ c κs. search needs)
@@ -33,6 +44,6 @@ remove-at-spec =
     (λ c. search needs)
     (λ c. search needs)
     (λ c. search needs)
-    (λ c. sweep-put (c .before .before .before .before .before .before .before .loop .inv) (omega arith) (c .before .before .before .before .link-at .ensures) _ (c .put-link .ensures) (stays _ _ (c .before .before .if1 .left)))
+    loop-again-2
     (λ c κs. search needs)
     (λ c. let k = c .keep-first .ensures in (swept (c .before .before .before .loop .inv) _ (omega arith) (k .0), k .1, k .2)))

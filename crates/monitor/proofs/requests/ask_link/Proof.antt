@@ -13,15 +13,29 @@ returns-2 c = rw (sym (c .before .before .before .is-ended .ensures) ∙ c .befo
 
 returns-3 : tie.Need-returns-3
 unfolding askLink pick
-returns-3 c = rw (sym (c .before .before .before .before .before .is-ended .ensures) ∙ c .before .before .before .before .if1 .left, sym (c .before .before .before .is-expired .ensures) ∙ c .before .before .if2 .left, sym (c .before .is-offered .ensures) ∙ not-true _ (c .if3 .taken))
+returns-3 c =
+    let lives = sym (c .before .before .before .before .before .is-ended .ensures) ∙ c .before .before .before .before .if1 .left in
+    let timely = sym (c .before .before .before .is-expired .ensures) ∙ c .before .before .if2 .left in
+    let offered = sym (c .before .is-offered .ensures) ∙ not-true _ (c .if3 .taken) in
+    rw (lives, timely, offered)
 
 returns-4 : tie.Need-returns-4
 unfolding askLink pick
-returns-4 c = rw (sym (c .before .before .before .before .before .before .before .is-ended .ensures) ∙ c .before .before .before .before .before .before .if1 .left, sym (c .before .before .before .before .before .is-expired .ensures) ∙ c .before .before .before .before .if2 .left, sym (c .before .before .before .is-offered .ensures) ∙ not-false _ (c .before .before .if3 .left), sym (c .before .is-link-left .ensures) ∙ not-true _ (c .if4 .taken))
+returns-4 c =
+    let lives = sym (c .before .before .before .before .before .before .before .is-ended .ensures) ∙ c .before .before .before .before .before .before .if1 .left in
+    let timely = sym (c .before .before .before .before .before .is-expired .ensures) ∙ c .before .before .before .before .if2 .left in
+    let offered = sym (c .before .before .before .is-offered .ensures) ∙ not-false _ (c .before .before .if3 .left) in
+    let room = sym (c .before .is-link-left .ensures) ∙ not-true _ (c .if4 .taken) in
+    rw (lives, timely, offered, room)
 
 returns-5 : tie.Need-returns-5
 unfolding askLink pick
-returns-5 c = rw (sym (c .before .before .before .before .before .before .before .is-ended .ensures) ∙ c .before .before .before .before .before .before .if1 .left, sym (c .before .before .before .before .before .is-expired .ensures) ∙ c .before .before .before .before .if2 .left, sym (c .before .before .before .is-offered .ensures) ∙ not-false _ (c .before .before .if3 .left), sym (c .before .is-link-left .ensures) ∙ not-false _ (c .if4 .left))
+returns-5 c =
+    let lives = sym (c .before .before .before .before .before .before .before .is-ended .ensures) ∙ c .before .before .before .before .before .before .if1 .left in
+    let timely = sym (c .before .before .before .before .before .is-expired .ensures) ∙ c .before .before .before .before .if2 .left in
+    let offered = sym (c .before .before .before .is-offered .ensures) ∙ not-false _ (c .before .before .if3 .left) in
+    let room = sym (c .before .is-link-left .ensures) ∙ not-false _ (c .if4 .left) in
+    rw (lives, timely, offered, room)
 
 pub ask-link-spec : {M : Type 1} → statement M
 ask-link-spec =

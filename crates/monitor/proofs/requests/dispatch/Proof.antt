@@ -10,11 +10,12 @@ unfolding dispatched
 returns c =
     let a = c .before .before .before .before .before .before .before .args in
     let m = view (a .s .now) in
-    let n =
+    let after =
     c .put-link .ensures .0
     ∙ ap (λ (k : Monitor). replaced k (a .i) (working (a .l) (a .p))) (c .before .before .put-party .ensures .0)
     ∙ ap (λ (q : Party). replaced (withParty m (a .p) (serving q (a .l .number))) (a .i) (working (a .l) (a .p))) (c .before .before .before .before .party-at .ensures) in
-    (λ z. record { monitor = n z; code = tpAccepted; value = a .l .number; event = c .before .before .before .before .before .before .dispatch-event .ensures z; token = a .l .first; service = a .l .service }, c .put-link .ensures .1)
+    let event = c .before .before .before .before .before .before .dispatch-event .ensures in
+    (λ z. record { monitor = after z; code = tpAccepted; value = a .l .number; event = event z; token = a .l .first; service = a .l .service }, c .put-link .ensures .1)
 
 pub dispatch-spec : {M : Type 1} → statement M
 dispatch-spec =

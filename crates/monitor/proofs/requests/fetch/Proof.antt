@@ -8,7 +8,8 @@ unfolding fetched
 returns c =
     let o = c .outcome-code in
     let z : toZ w64 (ofZ w64 (o .result)) ≡ o .result = search needs in
-    (λ i. record { monitor = c .before .remove-at .ensures .0 i; code = (z ∙ o .ensures) i; value = 0; event = 0; token = c .before .before .before .args .l .ending; service = 0 }, c .before .remove-at .ensures .1)
+    let m = c .before .remove-at .ensures in
+    (λ i. record { monitor = m .0 i; code = (z ∙ o .ensures) i; value = 0; event = 0; token = c .before .before .before .args .l .ending; service = 0 }, m .1)
 
 pub fetch-spec : {M : Type 1} → statement M
 fetch-spec = tie.close (tie.spec (λ c κs. search needs) (λ c κs. search needs) returns)

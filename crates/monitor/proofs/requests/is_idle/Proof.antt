@@ -1,5 +1,6 @@
 -- `requests::is_idle` meets its contract: `idleOf` is what is asked of a party and of its transaction.
-use Rattle.monitor.proofs.Usual.{ℕ, _≡_, ap, sym, _∙_, Bool, false, not, _&&_, eqb, eq-eqb, ne-eqb, needs, Monitor, Party, pick, anyOf, isOpened, ownEnd, party, live, servedTx, txOf, isIdle, view, pick-true, pick-false}
+use Rattle.monitor.proofs.Usual.{ℕ, _≡_, ap, sym, _∙_, Bool, false, not, _&&_, eqb, eq-eqb, ne-eqb, needs, Monitor, Party, pick, anyOf, isOpened, ownEnd, party, live, servedTx, txOf, isIdle, view}
+use Rattle.monitor.proofs.Usual.{pick-true, pick-false}
 use Rattle.monitor.proofs.requests.is_idle.Statement.{statement}
 use Rattle.monitor.proofs.requests.is_idle.Tie as tie
 
@@ -40,12 +41,14 @@ returns-2 c =
 returns-3 : tie.Need-returns-3
 returns-3 c =
     let a = c .before .before .before .before .before .before .before .args in
-    sym (owning (view (a .s .now)) (a .p) _ (c .before .before .before .before .before .before .party-at .ensures) (c .before .before .before .before .if1 .left) (c .before .before .if2 .left) (c .if3 .taken))
+    let q = c .before .before .before .before .before .before .party-at .ensures in
+    sym (owning (view (a .s .now)) (a .p) _ q (c .before .before .before .before .if1 .left) (c .before .before .if2 .left) (c .if3 .taken))
 
 returns-4 : tie.Need-returns-4
 returns-4 c =
     let a = c .before .before .before .before .before .before .before .before .args in
-    ap not (c .has-own-end .ensures) ∙ sym (free (view (a .s .now)) (a .p) _ (c .before .before .before .before .before .before .before .party-at .ensures) (c .before .before .before .before .before .if1 .left) (c .before .before .before .if2 .left) (c .before .if3 .left))
+    let q = c .before .before .before .before .before .before .before .party-at .ensures in
+    ap not (c .has-own-end .ensures) ∙ sym (free (view (a .s .now)) (a .p) _ q (c .before .before .before .before .before .if1 .left) (c .before .before .before .if2 .left) (c .before .if3 .left))
 
 pub is-idle-spec : {M : Type 1} → statement M
 is-idle-spec =

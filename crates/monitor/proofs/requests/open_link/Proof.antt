@@ -4,7 +4,8 @@ use Rattle.rules.specs.Record.{newLink}
 use Rattle.monitor.proofs.requests.open_link.Statement.{statement}
 use Rattle.monitor.proofs.requests.open_link.Tie as tie
 
-opened : (m : Monitor) (kind p x a t c s : ℕ) {n : Monitor} {l : Link} {d : ℕ} → n ≡ added m l → l ≡ newLink d kind p x a t c s → d ≡ m .lastlink + 1 → n ≡ added m (newLink (m .lastlink + 1) kind p x a t c s)
+opened : (m : Monitor) (kind p x a t c s : ℕ) {n : Monitor} {l : Link} {d : ℕ}
+    → n ≡ added m l → l ≡ newLink d kind p x a t c s → d ≡ m .lastlink + 1 → n ≡ added m (newLink (m .lastlink + 1) kind p x a t c s)
 opened m kind p x a t c s n l d = n ∙ ap (added m) l ∙ ap (λ (d : ℕ). added m (newLink d kind p x a t c s)) d
 
 returns : tie.Need-returns

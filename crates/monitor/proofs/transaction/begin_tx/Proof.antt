@@ -4,7 +4,8 @@ use Rattle.rules.specs.Record.{owning}
 use Rattle.monitor.proofs.transaction.begin_tx.Statement.{statement}
 use Rattle.monitor.proofs.transaction.begin_tx.Tie as tie
 
-begins : (m : Monitor) (p last now d : ℕ) (q : Party) → last ≡ m .lasttx → now ≡ m .clock → q ≡ party m p → d ≡ deadlineOf now (q .timeout) → withParty (withLastTx m (last + 1)) p (owning q (last + 1) d) ≡ beginTx m p
+begins : (m : Monitor) (p last now d : ℕ) (q : Party) → last ≡ m .lasttx → now ≡ m .clock → q ≡ party m p → d ≡ deadlineOf now (q .timeout)
+    → withParty (withLastTx m (last + 1)) p (owning q (last + 1) d) ≡ beginTx m p
 unfolding beginTx
 begins m p last now d q l n e h =
     let k = h ∙ ap₂ deadlineOf n (ap (λ (x : Party). x .timeout) e) in

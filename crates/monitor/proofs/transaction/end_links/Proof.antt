@@ -26,11 +26,21 @@ Inv-loop s₀ t from len i₀ j₀ s i j = Sweeps (endOf t) s₀ (view s₀) s i
 abbrev μ-loop : tie.MeasureT-loop
 μ-loop s₀ t from len i₀ j₀ s i j = len - i
 
+loop-again : tie.Need-loop-again Inv-loop μ-loop
+loop-again c =
+    let l = c .before .before .before .before .link-at in
+    sweep-put (c .before .before .before .before .before .before .before .loop .inv) (omega arith) (l .ensures) _ (c .put-link .ensures) (stays _ _ (c .before .before .if1 .taken))
+
 loop-again-2 : tie.Need-loop-again-2 Inv-loop μ-loop
 loop-again-2 c =
     let l = c .before .before .before .before .before .before .before .link-at in
     let becomes = orphans _ _ _ (c .before .before .before .before .before .if1 .left) (c .before .before .before .if2 .taken) (c .before .before .orphan .ensures) in
     sweep-put (c .before .before .before .before .before .before .before .before .before .before .loop .inv) (omega arith) (l .ensures) _ (c .put-link2 .ensures) becomes
+
+loop-again-3 : tie.Need-loop-again-3 Inv-loop μ-loop
+loop-again-3 c =
+    let l = c .before .before .before .before .link-at in
+    sweep-drop (c .before .before .before .before .before .before .before .loop .inv) (omega arith) (l .ensures) (goes _ _ (c .before .before .if1 .left) (c .if2 .left))
 
 pub end-links-spec : {M : Type 1} → statement M
 end-links-spec =
@@ -45,7 +55,7 @@ end-links-spec =
     (λ c. search needs)
     (λ c. search needs)
     (λ c. search needs)
-    (λ c. sweep-put (c .before .before .before .before .before .before .before .loop .inv) (omega arith) (c .before .before .before .before .link-at .ensures) _ (c .put-link .ensures) (stays _ _ (c .before .before .if1 .taken)))
+    loop-again
     (λ c κs. search needs)
     (λ c κs. search needs)
     (λ c. search needs)
@@ -54,6 +64,6 @@ end-links-spec =
     loop-again-2
     (λ c. search needs)
     (λ c. search needs)
-    (λ c. sweep-drop (c .before .before .before .before .before .before .before .loop .inv) (omega arith) (c .before .before .before .before .link-at .ensures) (goes _ _ (c .before .before .if1 .left) (c .if2 .left)))
+    loop-again-3
     (λ c κs. search needs)
     (λ c. let k = c .keep-first .ensures in (swept (c .before .before .before .loop .inv) _ (omega arith) (k .0), k .1, k .2)))

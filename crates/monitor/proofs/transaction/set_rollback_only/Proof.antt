@@ -1,5 +1,6 @@
 -- `transaction::set_rollback_only` meets its contract.
-use Rattle.monitor.proofs.Usual.{ℕ, _≤_, ap, sym, _∙_, arith, needs, eq-eqb, ne-eqb, length, set, Party, party, withParties, withParty, rollbackOnly, rollbackOnlyIn, view, pick-true, pick-false, parties-long}
+use Rattle.monitor.proofs.Usual.{ℕ, _≤_, ap, sym, _∙_, arith, needs, eq-eqb, ne-eqb, length, set, Party, party, withParties, withParty, rollbackOnly, rollbackOnlyIn, view}
+use Rattle.monitor.proofs.Usual.{pick-true, pick-false, parties-long}
 use lib.Seq.{set-out}
 use Rattle.monitor.proofs.transaction.set_rollback_only.Statement.{statement}
 use Rattle.monitor.proofs.transaction.set_rollback_only.Tie as tie
