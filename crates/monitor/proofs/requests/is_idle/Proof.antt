@@ -1,6 +1,6 @@
 -- `requests::is_idle` meets its contract: `idleOf` is what is asked of a party and of its transaction.
-use Rattle.monitor.proofs.Usual.{ℕ, _≡_, ap, sym, _∙_, Bool, false, not, _&&_, eqb, eq-eqb, ne-eqb, needs, Monitor, Party, pick, anyOf, isOpened, ownEnd, party, live, servedTx, txOf, isIdle, view}
-use Rattle.monitor.proofs.Usual.{pick-true, pick-false}
+use Rattle.monitor.proofs.Usual.{ℕ, _≡_, ap, sym, _∙_, Bool, false, not, _&&_, eqb, eq-eqb, ne-eqb, needs, Monitor, Party, pick, anyOf, isOpened, ownEnd, party, live, servedTx, txOf}
+use Rattle.monitor.proofs.Usual.{isIdle, view, pick-true, pick-false}
 use Rattle.monitor.proofs.requests.is_idle.Statement.{statement}
 use Rattle.monitor.proofs.requests.is_idle.Tie as tie
 

@@ -28,22 +28,27 @@ good : (c : tie.After-is-service) → let a = c .before .before .before .args in
 good c = sym (ap₂ (λ (s : Bool) (t : ℕ). isGood s (c .before .before .before .args .b) t) (c .is-service .ensures) (c .before .tx-of .ensures))
 
 -- those after it
-answer : (c : tie.After-ask-link) → let a = c .before .before .before .before .before .before .before .before .args in let m = view (a .s .now) in Asked m (linkTx m (a .p) (a .b)) (a .a) (c .ask-link .result)
+answer : (c : tie.After-ask-link) → let a = c .before .before .before .before .before .before .before .before .args in let m = view (a .s .now) in
+    Asked m (linkTx m (a .p) (a .b)) (a .a) (c .ask-link .result)
 answer c =
     let r = c .ask-link in
     let z : toZ w64 (ofZ w64 (r .result)) ≡ r .result = search needs in
     asked _ _ (r .ensures) (c .before .before .link-tx .ensures) z
 
 -- past them, the link is there
-told : (c : tie.After-no-reply) {v : ℕ} {r : Told} → let a = c .before .before .before .before .before .before .before .before .before .before .before .before .before .args in let m = view (a .s .now) in
-    v ≡ pick (noReply (a .b)) 0 (m .lastlink + 1) → r ≡ toldValue v → ruledBy r (view (c .before .open-link .last .0)) ≡ requestOf m (a .p) (a .a) (a .b) (a .c)
+told : (c : tie.After-no-reply) {v : ℕ} {r : Told} → let s = c .before .before .before .before .before .before .before .before .before .before .before .before .before .args in
+    let m = view (s .s .now) in
+    v ≡ pick (noReply (s .b)) 0 (m .lastlink + 1) → r ≡ toldValue v → ruledBy r (view (c .before .open-link .last .0)) ≡ requestOf m (s .p) (s .a) (s .b) (s .c)
 unfolding requestOf
 told c v r =
-    let a = c .before .before .before .before .before .before .before .before .before .before .before .before .before .args in
+    let answered = c .before .before .before .before .before in
+    let first = answered .before .before .before .before in
+    let a = first .before .before .before .before .args in
     let m = view (a .s .now) in
-    let passes = good (c .before .before .before .before .before .before .before .before .before .before) ∙ not-false _ (c .before .before .before .before .before .before .before .before .before .if1 .left) in
-    makes m (a .p) (a .a) (a .b) (a .c) (c .before .open-link .ensures .1) (c .before .before .before .open-end .ensures) (c .before .before .before .before .before .before .before .link-tx .ensures) v r
-    ∙ opened m (linkTx m (a .p) (a .b)) (a .a) _ (requested m (a .p) (a .a) (a .b) (a .c)) passes (answer (c .before .before .before .before .before)) (c .before .before .before .before .if2 .left)
+    let passes = good (first .before) ∙ not-false _ (first .if1 .left) in
+    let t = answered .before .before .link-tx .ensures in
+    makes m (a .p) (a .a) (a .b) (a .c) (c .before .open-link .ensures .1) (c .before .before .before .open-end .ensures) t v r
+    ∙ opened m (linkTx m (a .p) (a .b)) (a .a) _ (requested m (a .p) (a .a) (a .b) (a .c)) passes (answer answered) (c .before .before .before .before .if2 .left)
 
 returns : tie.Need-returns
 unfolding requestOf
@@ -52,11 +57,13 @@ returns c = (not-good _ _ _ _ _ (good (c .before .before) ∙ not-true _ (c .bef
 returns-2 : tie.Need-returns-2
 unfolding requestOf
 returns-2 c =
-    let s = c .before .before .before .before .before .before .before .before .before .before in
+    let answered = c .before .before in
+    let first = answered .before .before .before .before in
+    let s = first .before .before .before .before in
     let a = s .args in
     let m = view (a .s .now) in
-    let passes = good (c .before .before .before .before .before .before .before) ∙ not-false _ (c .before .before .before .before .before .before .if1 .left) in
-    (stopped m _ _ _ (requested m (a .p) (a .a) (a .b) (a .c)) passes (answer (c .before .before)) (c .before .if2 .taken) (c .coded2 .ensures), s .pre .2)
+    let passes = good (first .before) ∙ not-false _ (first .if1 .left) in
+    (stopped m _ _ _ (requested m (a .p) (a .a) (a .b) (a .c)) passes (answer answered) (c .before .if2 .taken) (c .coded2 .ensures), s .pre .2)
 
 open-link-requires : tie.Need-open-link-requires
 open-link-requires c κs = let h = all-pass _ _ _ (answer (c .before .before .before)) (c .before .before .if2 .left) in search needs

@@ -37,11 +37,13 @@ returns c = (not-good _ _ _ _ _ (good (c .before .before) ∙ not-true _ (c .bef
 returns-2 : tie.Need-returns-2
 unfolding connectOf
 returns-2 c =
-    let s = c .before .before .before .before .before .before .before .before .before in
+    let answered = c .before .before in
+    let first = answered .before .before .before .before in
+    let s = first .before .before .before in
     let a = s .args in
     let m = view (a .s .now) in
-    let passes = good (c .before .before .before .before .before .before .before) ∙ not-false _ (c .before .before .before .before .before .before .if1 .left) in
-    (stopped m _ _ _ (connected m (a .p) (a .a) (a .b) (a .c)) passes (answer (c .before .before)) (c .before .if2 .taken) (c .coded2 .ensures), s .pre .2)
+    let passes = good (first .before) ∙ not-false _ (first .if1 .left) in
+    (stopped m _ _ _ (connected m (a .p) (a .a) (a .b) (a .c)) passes (answer answered) (c .before .if2 .taken) (c .coded2 .ensures), s .pre .2)
 
 open-link-requires : tie.Need-open-link-requires
 open-link-requires c κs = let h = all-pass _ _ _ (answer (c .before .before .before)) (c .before .before .if2 .left) in search needs
@@ -49,12 +51,15 @@ open-link-requires c κs = let h = all-pass _ _ _ (answer (c .before .before .be
 returns-3 : tie.Need-returns-3
 unfolding connectOf
 returns-3 c =
-    let a = c .before .before .before .before .before .before .before .before .before .before .before .before .args in
+    let answered = c .before .before .before .before .before in
+    let first = answered .before .before .before .before in
+    let a = first .before .before .before .args in
     let m = view (a .s .now) in
     let o = c .before .open-link .ensures in
-    let passes = good (c .before .before .before .before .before .before .before .before .before .before) ∙ not-false _ (c .before .before .before .before .before .before .before .before .before .if1 .left) in (
-      makes m (a .p) (a .a) (a .b) (a .c) (o .1) (c .before .before .before .before .before .before .before .link-tx .ensures) (c .before .before .before .first-sender .ensures) (o .0) (c .accept .ensures)
-          ∙ opened m (linkTx m (a .p) (a .b)) (a .a) _ (connected m (a .p) (a .a) (a .b) (a .c)) passes (answer (c .before .before .before .before .before)) (c .before .before .before .before .if2 .left),
+    let passes = good (first .before) ∙ not-false _ (first .if1 .left) in
+    let t = answered .before .before .link-tx .ensures in (
+      makes m (a .p) (a .a) (a .b) (a .c) (o .1) t (c .before .before .before .first-sender .ensures) (o .0) (c .accept .ensures)
+          ∙ opened m (linkTx m (a .p) (a .b)) (a .a) _ (connected m (a .p) (a .a) (a .b) (a .c)) passes (answer answered) (c .before .before .before .before .if2 .left),
       o .2,
     )
 

@@ -18,11 +18,14 @@ asked c =
     let a = c .before .before .before .before .before .before .args in
     let m = view (a .s .now) in
     let q = c .before .before .party-at in
-    of-service m (a .p) (a .a) (λ q. rest m (a .p) (a .a) q (offers (a .a) q) (offered (q .services))) (c .before .before .before .before .before .if1 .left) (c .before .before .before .before .if2 .left) (q .ensures)
+    let asks : Party → Ruled = λ q. rest m (a .p) (a .a) q (offers (a .a) q) (offered (q .services)) in
+    of-service m (a .p) (a .a) asks (c .before .before .before .before .before .if1 .left) (c .before .before .before .before .if2 .left) (q .ensures)
     ∙ sym (ap₂ (rest m (a .p) (a .a) (q .result)) (c .before .is-offering .ensures) (c .service-count .ensures))
 
 returns-3 : tie.Need-returns-3
-returns-3 c = (refused (c .coded3 .ensures) (asked (c .before .before) ∙ pick-false _ _ _ (not-true _ (c .before .if3 .taken))), c .before .before .before .before .before .before .before .before .pre .1)
+returns-3 c =
+    let may = c .before .before in
+    (refused (c .coded3 .ensures) (asked may ∙ pick-false _ _ _ (not-true _ (c .before .if3 .taken))), may .before .before .before .before .before .before .pre .1)
 
 returns-4 : tie.Need-returns-4
 returns-4 c =

@@ -22,7 +22,9 @@ asked c =
     ∙ sym (ap (rest m (a .p) (a .a) (q .result)) (c .is-offering .ensures))
 
 returns-3 : tie.Need-returns-3
-returns-3 c = (refused (c .coded3 .ensures) (asked (c .before .before) ∙ pick-false _ _ _ (not-true _ (c .before .if3 .taken))), c .before .before .before .before .before .before .before .pre .1)
+returns-3 c =
+    let has = c .before .before in
+    (refused (c .coded3 .ensures) (asked has ∙ pick-false _ _ _ (not-true _ (c .before .if3 .taken))), has .before .before .before .before .before .pre .1)
 
 without-service-requires : tie.Need-without-service-requires
 unfolding offers

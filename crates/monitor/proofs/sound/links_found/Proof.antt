@@ -1,5 +1,6 @@
 -- `sound::links_found` meets its contract. The invariant: what is found so far, and then of the links from place i on, is what all links give.
-use Rattle.monitor.proofs.Usual.{ℕ, _-_, _≤_, _<_, _≡_, refl, ap, sym, _∙_, List, Bool, true, _&&_, ⊎-elim, arith, needs, not-true, not-false, eqb, ltb, leb, length, drop, getD, pick, live, party, linkGood, linksGood, view, end-live}
+use Rattle.monitor.proofs.Usual.{ℕ, _-_, _<_, _≡_, refl, ap, sym, _∙_, List, Bool, true, _&&_, ⊎-elim, arith, needs, not-true, not-false, eqb, ltb, leb, length, drop, getD, pick}
+use Rattle.monitor.proofs.Usual.{Link, live, party, linkGood, linksGood, view, end-live}
 use lib.ListN.{length-set, getD-replicate}
 use Rattle.rules.specs.Record.{isWorking}
 use Rattle.rules.proofs.Logic.{and-r, not-both}
@@ -11,40 +12,43 @@ use Rattle.monitor.proofs.sound.links_found.Statement.{statement}
 use Rattle.monitor.proofs.sound.links_found.Tie as tie
 
 abbrev Inv-loop : tie.InvT-loop
-Inv-loop s found₀ len prev₀ i₀ found prev i = (len ≡ view s .count) × (i ≤ len) × (linksGood (view s .lastlink) 0 (live (view s)) ≡ linksGood (view s .lastlink) prev (drop i (live (view s)))) × (length found ≡ 16) × ((p : ℕ) → p < 16 → foundFor (view s) p (getD found p 0) (drop i (live (view s))) ≡ foundFor (view s) p 0 (live (view s)))
+Inv-loop s found₀ len prev₀ i₀ found prev i =
+    (linksGood (view s .lastlink) 0 (live (view s)) ≡ linksGood (view s .lastlink) prev (drop i (live (view s))))
+    × (length found ≡ 16)
+    × ((p : ℕ) → p < 16 → foundFor (view s) p (getD found p 0) (drop i (live (view s))) ≡ foundFor (view s) p 0 (live (view s)))
 
 abbrev μ-loop : tie.MeasureT-loop
 μ-loop s found₀ len prev₀ i₀ found prev i = len - i
 
 -- what the code tests of the link
-tested : (c : tie.After-link-good Inv-loop μ-loop) → ltb (c .before .before .before .loop .prev) (c .before .link-at .result .number) && linkGood (c .before .link-at .result) ≡ ltb (c .before .before .before .loop .prev) (c .before .link-at .result .number) && c .link-good .result
-tested c = ap (λ (b : Bool). ltb (c .before .before .before .loop .prev) (c .before .link-at .result .number) && b) (sym (c .link-good .ensures))
+abbrev past : ℕ → Link → Bool → Bool
+past prev l good = ltb prev (l .number) && good
+
+tested : (c : tie.After-link-good Inv-loop μ-loop) → let prev = c .before .before .before .loop .prev in let l = c .before .link-at .result in
+    past prev l (linkGood l) ≡ past prev l (c .link-good .result)
+tested c = ap (past (c .before .before .before .loop .prev) (c .before .link-at .result)) (sym (c .link-good .ensures))
 
 -- it passed, so that its server is a party
-passed : (c : tie.Else1 Inv-loop μ-loop) → ltb (c .before .before .before .before .before .loop .prev) (c .before .before .before .link-at .result .number) && linkGood (c .before .before .before .link-at .result) ≡ true
+passed : (c : tie.Else1 Inv-loop μ-loop) → let l = c .before .before .before .link-at .result in past (c .before .before .before .before .before .loop .prev) l (linkGood l) ≡ true
 passed c = tested (c .before .before) ∙ not-false _ (c .if1 .left)
 
 small : (c : tie.Else1 Inv-loop μ-loop) → c .before .before .before .link-at .result .server < 16
-small c = server-small (c .before .before .before .link-at .result) (and-r (ltb (c .before .before .before .before .before .loop .prev) (c .before .before .before .link-at .result .number)) _ (passed c))
+small c = let l = c .before .before .before .link-at .result in server-small l (and-r (ltb (c .before .before .before .before .before .loop .prev) (l .number)) _ (passed c))
 
 loop-holds : tie.Need-loop-holds Inv-loop μ-loop
 loop-holds c =
     let a = c .before in
     let m = view (a .args .s .now) in
     let e = a .pre .1 in
-    (c .count .ensures, omega arith, refl, ap length e, λ p h. ap (λ (f : ℕ). foundFor m p f (live m)) (ap (λ (f : List ℕ). getD f p 0) e ∙ getD-replicate 16 p 0 0 h))
-
-link-at-requires : tie.Need-link-at-requires Inv-loop μ-loop
-link-at-requires c κs = let n = c .before .loop .inv .0 in omega arith
+    (refl, ap length e, λ p h. ap (λ (f : ℕ). foundFor m p f (live m)) (ap (λ (f : List ℕ). getD f p 0) e ∙ getD-replicate 16 p 0 0 h))
 
 returns : tie.Need-returns Inv-loop μ-loop
 returns c =
     let xs = c .before .before .before .before .before .before .before .args .s .now in
     let v = c .before .before .before .before .before .loop in
-    let n = v .inv .0 in
     let l = c .before .before .before .link-at in
     let k = link-read xs (v .i) (l .result) (omega arith) (omega arith) (l .ensures) in
-    (sym (v .inv .2 ∙ link-failed _ _ _ _ _ k (tested (c .before .before) ∙ not-true _ (c .if1 .taken))), λ e. not-both e refl)
+    (sym (v .inv .0 ∙ link-failed _ _ _ _ _ k (tested (c .before .before) ∙ not-true _ (c .if1 .taken))), λ e. not-both e refl)
 
 served-at-requires : tie.Need-served-at-requires Inv-loop μ-loop
 served-at-requires c κs = small (c .before)
@@ -54,34 +58,32 @@ element-write-found c = small (c .before .before .before .before .before)
 
 loop-again : tie.Need-loop-again Inv-loop μ-loop
 loop-again c =
-    let xs = c .before .before .before .before .before .before .before .before .before .before .before .before .args .s .now in
-    let h = c .before .before .before .before .before .before .before .before .before .before .before .before .pre .0 in
-    let j = c .before .before .before .before .before .before .before .before .before .loop-test .taken in
+    let s = c .before .before .before .before .before .before .before .before .before .before .before .before in
+    let xs = s .args .s .now in
+    let h = s .pre .0 in
+    let len = c .before .before .before .before .before .before .before .before .before .before .before .count .ensures in
+    let inside = c .before .before .before .before .before .before .before .before .before .loop-test .taken in
     let v = c .before .before .before .before .before .before .before .before .before .before .loop in
-    let n = v .inv .0 in
     let l = c .before .before .before .before .before .before .before .before .link-at in
     let k = link-read xs (v .i) (l .result) (omega arith) (omega arith) (l .ensures) in
     let d : ℕ → ℕ = λ p. party (view xs) p .served in
     let w = ap (λ (d : ℕ). isWorking (l .result) && eqb (l .result .number) d) (sym (c .before .before .before .served-at .ensures)) in
     let next : (p : ℕ) → pick (servedBy p (d p) (l .result)) (l .result .number) (getD (v .found) p 0) ≡ getD (c .if2 .found) p 0 = λ p.
     ⊎-elim
-    (λ q. found-put (v .found) d (l .result) p (v .inv .3) (small (c .before .before .before .before .before)) (w ∙ q .0 .taken) ∙ ap (λ (f : List ℕ). getD f p 0) (sym (q .1)))
+    (λ q. found-put (v .found) d (l .result) p (v .inv .1) (small (c .before .before .before .before .before)) (w ∙ q .0 .taken) ∙ ap (λ (f : List ℕ). getD f p 0) (sym (q .1)))
     (λ q. found-kept (v .found) d (l .result) p (w ∙ q .0 .left) ∙ ap (λ (f : List ℕ). getD f p 0) (sym (q .1)))
     (c .if2 .came) in (
-      n,
-      omega arith,
-      v .inv .2 ∙ link-passed _ _ _ _ _ k (passed (c .before .before .before .before .before)),
-      ⊎-elim (λ q. ap length (q .1) ∙ length-set (v .found) (l .result .server) (l .result .number) ∙ v .inv .3) (λ q. ap length (q .1) ∙ v .inv .3) (c .if2 .came),
-      λ p h. sym (found-next p (d p) _ _ _ _ _ k (next p)) ∙ v .inv .4 p h,
+      v .inv .0 ∙ link-passed _ _ _ _ _ k (passed (c .before .before .before .before .before)),
+      ⊎-elim (λ q. ap length (q .1) ∙ length-set (v .found) (l .result .server) (l .result .number) ∙ v .inv .1) (λ q. ap length (q .1) ∙ v .inv .1) (c .if2 .came),
+      λ p h. sym (found-next p (d p) _ _ _ _ _ k (next p)) ∙ v .inv .2 p h,
     )
 
 returns-2 : tie.Need-returns-2 Inv-loop μ-loop
 returns-2 c =
     let xs = c .before .before .before .before .args .s .now in
     let v = c .before .before .loop in
-    let n = v .inv .0 in
     let o = end-live xs (v .i) (omega arith) (omega arith) in
-    (ap (leb (v .prev)) (c .last-link .ensures) ∙ sym (v .inv .2 ∙ links-over _ _ _ o), λ e p h. sym (found-over p _ _ _ o) ∙ v .inv .4 p h)
+    (ap (leb (v .prev)) (c .last-link .ensures) ∙ sym (v .inv .0 ∙ links-over _ _ _ o), λ e p h. sym (found-over p _ _ _ o) ∙ v .inv .2 p h)
 
 pub links-found-spec : {M : Type 1} → statement M
 links-found-spec =
@@ -91,7 +93,7 @@ links-found-spec =
     μ-loop
     (λ c κs. search needs)
     loop-holds
-    link-at-requires
+    (λ c κs. omega arith)
     (λ c κs. search needs)
     returns
     (λ c. search needs)
