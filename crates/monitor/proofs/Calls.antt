@@ -22,7 +22,9 @@ use Rattle.rules.specs.Step.{callOf}
 use Rattle.rules.specs.declared.Call.{Call}
 use Rattle.rules.specs.declared.Stepped.{Stepped}
 use Rattle.rules.specs.declared.Monitor.{Monitor}
-use Rattle.monitor.specs.File.{Numbers, numbers, stopped, ahead, onward, readNumbers, CallReading, called, nothing, broken, asCall, readCall, Calls, noCalls, withCall, further, callsFrom, codeAt, Passed, passed, afterCalls, fileCalls, pieceRun, pieceOf, fileOf}
+use Rattle.monitor.specs.File.{Numbers, numbers, stopped, ahead, onward, readNumbers}
+use Rattle.monitor.specs.File.{CallReading, called, nothing, broken, asCall, readCall, Calls, noCalls, withCall, further, callsFrom, codeAt}
+use Rattle.monitor.specs.File.{Passed, passed, afterCalls, fileCalls, pieceRun, pieceOf, fileOf}
 use Rattle.rules.proofs.Logic.{pick-true, pick-false, byTest}
 
 -- ---- numbers one after the other

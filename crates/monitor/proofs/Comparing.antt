@@ -27,14 +27,16 @@ party-read xs p q h e = next-party xs p h ∙ ap (λ (q : Party). q ∷ drop (p 
 -- ---- two records, place by place
 module _ (xs ys : List ℕ) (i : ℕ) where
   module _ (h : view xs .count ≤ 32) (n : view xs .count ≡ view ys .count) (k : i < view xs .count) (l j : Link) (a : l ≡ linkIn (view xs) i) (b : j ≡ linkIn (view ys) i) where
-    pub links-alike : sameLink l j ≡ true → allSame sameLink (drop i (live (view xs))) (drop i (live (view ys))) ≡ allSame sameLink (drop (i + 1) (live (view xs))) (drop (i + 1) (live (view ys)))
+    pub links-alike : sameLink l j ≡ true
+        → allSame sameLink (drop i (live (view xs))) (drop i (live (view ys))) ≡ allSame sameLink (drop (i + 1) (live (view xs))) (drop (i + 1) (live (view ys)))
     links-alike = alike-more sameLink _ _ l j _ _ (link-read xs i l h k a) (link-read ys i j (omega arith) (omega arith) b)
 
     pub links-unlike : sameLink l j ≡ false → allSame sameLink (drop i (live (view xs))) (drop i (live (view ys))) ≡ false
     links-unlike = alike-not sameLink _ _ l j _ _ (link-read xs i l h k a) (link-read ys i j (omega arith) (omega arith) b)
 
   module _ (h : i < 16) (q s : Party) (a : q ≡ party (view xs) i) (b : s ≡ party (view ys) i) where
-    pub parties-alike : sameParty q s ≡ true → allSame sameParty (drop i (view xs .parties)) (drop i (view ys .parties)) ≡ allSame sameParty (drop (i + 1) (view xs .parties)) (drop (i + 1) (view ys .parties))
+    pub parties-alike : sameParty q s ≡ true
+        → allSame sameParty (drop i (view xs .parties)) (drop i (view ys .parties)) ≡ allSame sameParty (drop (i + 1) (view xs .parties)) (drop (i + 1) (view ys .parties))
     parties-alike = alike-more sameParty _ _ q s _ _ (party-read xs i q h a) (party-read ys i s h b)
 
     pub parties-unlike : sameParty q s ≡ false → allSame sameParty (drop i (view xs .parties)) (drop i (view ys .parties)) ≡ false

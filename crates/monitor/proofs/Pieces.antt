@@ -227,7 +227,8 @@ module _ (m : Monitor) (shape : Shape m) (bytes more : List ℕ) (last : Bool) (
       ∙ code-shifts last (turn .used) (readCall left 0)
 
   module _ (after : Monitor → List ℕ → List Passed)
-      (later : SoundRecord (turn .monitor) → isOver last (turn .code) (length left) ≡ false → together (turn .monitor) (turn .code) (after (turn .monitor) left) ≡ wholeOf (turn .monitor) (left ++ more)) where
+      (later : SoundRecord (turn .monitor) → isOver last (turn .code) (length left) ≡ false
+      → together (turn .monitor) (turn .code) (after (turn .monitor) left) ≡ wholeOf (turn .monitor) (left ++ more)) where
     -- what comes after a turn on a sound record gives the whole of what the turn leaves
     rest-whole : sound m ≡ true
         → together (turn .monitor) (turn .code) (pick (isOver last (turn .code) (length left)) [] (after (turn .monitor) left)) ≡ wholeRun (turn .monitor) (left ++ more)

@@ -12,7 +12,8 @@ use lib.ListN.{length, drop, length-append, length-drop}
 use Rattle.number.specs.Reader.{Reading, number, refused, readNumber}
 use Rattle.number.proofs.Reading.{below-or-not, one-of-three, number-within, number-near, cut-near-end, answer-extends, shifted, number-shifts}
 use Rattle.rules.specs.declared.Call.{Call}
-use Rattle.monitor.specs.File.{Numbers, numbers, stopped, ahead, onward, readNumbers, CallReading, called, nothing, broken, asCall, readCall, Calls, noCalls, withCall, further, callsFrom, fileCalls, codeAt}
+use Rattle.monitor.specs.File.{Numbers, numbers, stopped, ahead, onward, readNumbers}
+use Rattle.monitor.specs.File.{CallReading, called, nothing, broken, asCall, readCall, Calls, noCalls, withCall, further, callsFrom, fileCalls, codeAt}
 use Rattle.monitor.proofs.Calls.{one-more, no-more, call-some, call-none, call-after, call-within, calls-one, calls-nothing, calls-broken, calls-few}
 
 -- ---- what follows

@@ -3,7 +3,7 @@
 -- Assumes nothing.
 use Prim.Native.Nat.{ℕ, suc, _+_, _-_, _≤_, _<_}
 use mathlib.Core.Path.{_≡_, refl, ap, sym, _∙_}
-use mathlib.Core.Bool.{Bool, true, false}
+use mathlib.Core.Bool.{Bool, false}
 use mathlib.Core.List.{List, [], _∷_, _++_, append-nil, append-assoc}
 use native.Mathlib.Numerals.{add-one}
 use native.Mathlib.Omega.{arith}
@@ -12,7 +12,6 @@ use lib.Seq.{paste, paste-zero, paste-suc, take-suc-set, drop-set-lt, drop-drop,
 use Rattle.rules.specs.declared.Link.{Link}
 use Rattle.rules.specs.declared.Party.{Party}
 use Rattle.rules.specs.declared.Monitor.{Monitor}
-use Rattle.rules.specs.Choice.{pick}
 use Rattle.rules.specs.Lists.{firstOf, collect}
 use Rattle.rules.specs.Record.{freshLink, blanks, live, withContents, withParties, withLinks, withCount, rebuilt, replaced}
 use Rattle.rules.proofs.Logic.{pick-true, pick-false, test}
@@ -79,7 +78,8 @@ pub record Sweeps (f : Link → List Link) (ws : List ℕ) (h : Monitor) (xs : L
   pub other : view xs ≡ withLinks h (view xs .links)
 
 -- it starts at a place before which f keeps each
-pub sweep-start : (f : Link → List Link) (ws : List ℕ) (i : ℕ) → length ws ≡ words → view ws .count ≤ 32 → i ≤ view ws .count → collect f (take i (view ws .links)) ≡ take i (view ws .links) → Sweeps f ws (view ws) ws i i
+pub sweep-start : (f : Link → List Link) (ws : List ℕ) (i : ℕ) → length ws ≡ words → view ws .count ≤ 32 → i ≤ view ws .count
+    → collect f (take i (view ws .links)) ≡ take i (view ws .links) → Sweeps f ws (view ws) ws i i
 sweep-start f ws i n r h e = record { long = n; room = r; inside = h; behind = omega arith; front = sym e; rest = refl; other = refl }
 
 module _ {f : Link → List Link} {ws : List ℕ} {h : Monitor} {xs : List ℕ} {i j : ℕ} (g : Sweeps f ws h xs i j) where
@@ -161,7 +161,8 @@ kept-before f a keeps (x ∷ l) = test (a x)
     ∙ ap (λ (k : ℕ). take k (x ∷ l)) (sym (pick-false (a x) 0 (suc (firstOf a l)) e)))
 
 -- a sweep starts at the first that passes the test
-pub sweep-first : (f : Link → List Link) (a : Link → Bool) → ((x : Link) → a x ≡ false → f x ≡ x ∷ []) → (ws : List ℕ) (at : ℕ) → length ws ≡ words → view ws .count ≤ 32 → at ≡ firstOf a (live (view ws)) → Sweeps f ws (view ws) ws at at
+pub sweep-first : (f : Link → List Link) (a : Link → Bool) → ((x : Link) → a x ≡ false → f x ≡ x ∷ []) → (ws : List ℕ) (at : ℕ)
+    → length ws ≡ words → view ws .count ≤ 32 → at ≡ firstOf a (live (view ws)) → Sweeps f ws (view ws) ws at at
 sweep-first f a keeps ws at n h e =
     let l : List Link = live (view ws) in
     let long = links-long 32 0 ws in

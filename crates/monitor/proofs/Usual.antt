@@ -47,6 +47,6 @@ pub use Rattle.monitor.specs.Words.{words}
 pub use Rattle.monitor.specs.View.{view, linkIn, liveAt, changedAt, ruledBy, toldCode, toldValue, stepped, codeAnswer}
 unfoldable pub use Rattle.monitor.specs.View.{linkAt, partyAt, ofTx}
 pub use Rattle.rules.proofs.Logic.{pick-true, pick-false, same-eq, same-ne}
-pub use Rattle.monitor.proofs.Lists.{live-at, live-past, rest-cons, any-first}
-pub use Rattle.monitor.proofs.Laws.{links-long, parties-long, link-law, party-law, next-live, end-live, live-long, live-in, next-party, end-party, live-of, changed-of, there, nowhere, replaced-of, count-kept, sound-room}
-pub use Rattle.monitor.proofs.Search.{LinkSearch, PartySearch, search-links, search-links-from, search-parties, tested, found-first, found-any, passed, none-first, none-any}
+pub use Rattle.monitor.proofs.Lists.{live-past, any-first}
+pub use Rattle.monitor.proofs.Laws.{links-long, parties-long, link-law, party-law, end-live, live-long, live-in, end-party, live-of, changed-of, there, nowhere, replaced-of, count-kept, sound-room}
+pub use Rattle.monitor.proofs.Search.{LinkSearch, PartySearch, search-links, search-parties, tested, found-first, found-any, passed, none-first, none-any}

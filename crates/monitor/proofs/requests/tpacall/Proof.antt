@@ -1,5 +1,5 @@
 -- `requests::tpacall` meets its contract.
-use Rattle.monitor.proofs.Usual.{ℕ, _+_, _≡_, ap, ap₂, sym, _∙_, Bool, not, _&&_, needs, w64, toZ, ofZ, eqb, leb, not-true, not-false, Monitor, Ruled, Told, pick, added, valued}
+use Rattle.monitor.proofs.Usual.{ℕ, _+_, _≡_, ap₂, sym, _∙_, Bool, not, _&&_, needs, w64, toZ, ofZ, eqb, leb, not-true, not-false, Monitor, Ruled, Told, pick, added, valued}
 use Rattle.monitor.proofs.Usual.{isService, txOf, linkTx, requestOf, view, ruledBy, toldValue, pick-true, pick-false}
 use Rattle.rules.specs.Record.{newLink}
 use Rattle.rules.specs.Requests.{noReply}

@@ -1,13 +1,16 @@
 -- `requests::tpgetrply` meets its contract.
-use Rattle.monitor.proofs.Usual.{ℕ, _≡_, ap, sym, _∙_, not, needs, eq-eqb, ne-eqb, not-true, not-false, Monitor, Link, Ruled, isReturned, ask, noSuchEnd, timedOut, noReplyYet}
+use Rattle.monitor.proofs.Usual.{ℕ, _≡_, ap, sym, _∙_, Bool, not, needs, eq-eqb, ne-eqb, not-true, not-false, Monitor, Link, Ruled, isReturned, ask, noSuchEnd, timedOut, noReplyYet}
 use Rattle.monitor.proofs.Usual.{expired, fetched, fetchOf, view, pick-true, pick-false}
 use Rattle.monitor.proofs.Talking.{refused, no-request-end, on-request-end}
 use Rattle.monitor.proofs.requests.tpgetrply.Statement.{statement}
 use Rattle.monitor.proofs.requests.tpgetrply.Tie as tie
 
--- the rule past the question of the end
+-- the rule past the question of the end, and whether its transaction has expired
+abbrev timely : Monitor → ℕ → Link → Bool → Ruled
+timely m a l late = ask m (not late) timedOut (ask m (isReturned l) noReplyYet (fetched m a l))
+
 abbrev rest : Monitor → ℕ → Link → Ruled
-rest m a l = ask m (not (expired m (l .tx))) timedOut (ask m (isReturned l) noReplyYet (fetched m a l))
+rest m a l = timely m a l (expired m (l .tx))
 
 found : (c : tie.After-is-request-end) → let a = c .before .before .before .before .before .before .before .before .args in let m = view (a .s .now) in
     fetchOf m (a .p) (a .a) ≡ ask m (c .is-request-end .result) noSuchEnd (rest m (a .a) (c .before .link-at .result))
@@ -33,28 +36,30 @@ returns-2 c =
     let s = asked .before .before .before .before .before .before .before .before in
     (refused (c .coded2 .ensures) (found asked ∙ pick-false _ _ _ (not-true _ (c .before .if2 .taken))), s .pre .1)
 
+own : (c : tie.After-is-expired) → let a = c .before .before .before .before .before .before .before .before .before .before .before .args in let m = view (a .s .now) in
+    fetchOf m (a .p) (a .a) ≡ timely m (a .a) (c .before .before .before .before .link-at .result) (c .is-expired .result)
+own c =
+    let a = c .before .before .before .before .before .before .before .before .before .before .before .args in
+    found (c .before .before .before)
+    ∙ pick-true _ _ _ (not-false _ (c .before .before .if2 .left))
+    ∙ ap (timely (view (a .s .now)) (a .a) (c .before .before .before .before .link-at .result)) (sym (c .is-expired .ensures))
+
 returns-3 : tie.Need-returns-3
 returns-3 c =
-    let asked = c .before .before .before .before .before in
-    let s = asked .before .before .before .before .before .before .before .before in
-    let own = found asked ∙ pick-true _ _ _ (not-false _ (c .before .before .before .before .if2 .left)) in
-    let late = ap not (sym (c .before .before .is-expired .ensures) ∙ c .before .if3 .taken) in
-    (refused (c .coded3 .ensures) (own ∙ pick-false _ _ _ late), s .pre .1)
+    let asked = c .before .before in
+    (refused (c .coded3 .ensures) (own asked ∙ pick-false _ _ _ (ap not (c .before .if3 .taken))), asked .before .before .before .before .before .before .before .before .before .before .before .pre .1)
 
 returns-4 : tie.Need-returns-4
 returns-4 c =
-    let asked = c .before .before .before .before .before .before .before in
-    let s = asked .before .before .before .before .before .before .before .before in
-    let own = found asked ∙ pick-true _ _ _ (not-false _ (c .before .before .before .before .before .before .if2 .left)) in
-    let timely = ap not (sym (c .before .before .before .before .is-expired .ensures) ∙ c .before .before .before .if3 .left) in
-    (refused (c .coded4 .ensures) (own ∙ pick-true _ _ _ timely ∙ pick-false _ _ _ (ne-eqb _ _ (c .before .if4 .taken))), s .pre .1)
+    let asked = c .before .before .before .before in
+    let r = own asked ∙ pick-true _ _ _ (ap not (c .before .before .before .if3 .left)) ∙ pick-false _ _ _ (ne-eqb _ _ (c .before .if4 .taken)) in
+    (refused (c .coded4 .ensures) r, asked .before .before .before .before .before .before .before .before .before .before .before .pre .1)
 
 returns-5 : tie.Need-returns-5
 returns-5 c =
-    let asked = c .before .before .before .before .before .before .before .before in
-    let own = found asked ∙ pick-true _ _ _ (not-false _ (c .before .before .before .before .before .before .before .if2 .left)) in
-    let timely = ap not (sym (c .before .before .before .before .before .is-expired .ensures) ∙ c .before .before .before .before .if3 .left) in
-    (c .fetch .ensures .0 ∙ sym (own ∙ pick-true _ _ _ timely ∙ pick-true _ _ _ (eq-eqb _ _ (c .before .before .if4 .left))), c .fetch .ensures .1)
+    let asked = c .before .before .before .before .before in
+    let r = own asked ∙ pick-true _ _ _ (ap not (c .before .before .before .before .if3 .left)) ∙ pick-true _ _ _ (eq-eqb _ _ (c .before .before .if4 .left)) in
+    (c .fetch .ensures .0 ∙ sym r, c .fetch .ensures .1)
 
 pub tpgetrply-spec : {M : Type 1} → statement M
 tpgetrply-spec =
