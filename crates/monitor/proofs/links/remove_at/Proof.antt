@@ -24,8 +24,8 @@ abbrev μ-loop : tie.MeasureT-loop
 
 loop-again-2 : tie.Need-loop-again-2 Inv-loop μ-loop
 loop-again-2 c =
-    let l = c .before .before .before .before .link-at in
-    sweep-put (c .before .before .before .before .before .before .before .loop .inv) (omega arith) (l .ensures) _ (c .put-link .ensures) (stays _ _ (c .before .before .if1 .left))
+    let l = c .before .before .before .before in
+    sweep-put (l .before .before .before .loop .inv) (omega arith) (l .link-at .ensures) _ (c .put-link .ensures) (stays _ _ (c .before .before .if1 .left))
 
 pub remove-at-spec : {M : Type 1} → statement M
 unfolding removed

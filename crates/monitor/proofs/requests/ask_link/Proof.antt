@@ -14,26 +14,34 @@ returns-2 c = rw (sym (c .before .before .before .is-ended .ensures) ∙ c .befo
 returns-3 : tie.Need-returns-3
 unfolding askLink pick
 returns-3 c =
-    let lives = sym (c .before .before .before .before .before .is-ended .ensures) ∙ c .before .before .before .before .if1 .left in
-    let timely = sym (c .before .before .before .is-expired .ensures) ∙ c .before .before .if2 .left in
+    let second = c .before .before in
+    let first = second .before .before in
+    let lives = sym (first .before .is-ended .ensures) ∙ first .if1 .left in
+    let timely = sym (second .before .is-expired .ensures) ∙ second .if2 .left in
     let offered = sym (c .before .is-offered .ensures) ∙ not-true _ (c .if3 .taken) in
     rw (lives, timely, offered)
 
 returns-4 : tie.Need-returns-4
 unfolding askLink pick
 returns-4 c =
-    let lives = sym (c .before .before .before .before .before .before .before .is-ended .ensures) ∙ c .before .before .before .before .before .before .if1 .left in
-    let timely = sym (c .before .before .before .before .before .is-expired .ensures) ∙ c .before .before .before .before .if2 .left in
-    let offered = sym (c .before .before .before .is-offered .ensures) ∙ not-false _ (c .before .before .if3 .left) in
+    let third = c .before .before in
+    let second = third .before .before in
+    let first = second .before .before in
+    let lives = sym (first .before .is-ended .ensures) ∙ first .if1 .left in
+    let timely = sym (second .before .is-expired .ensures) ∙ second .if2 .left in
+    let offered = sym (third .before .is-offered .ensures) ∙ not-false _ (third .if3 .left) in
     let room = sym (c .before .is-link-left .ensures) ∙ not-true _ (c .if4 .taken) in
     rw (lives, timely, offered, room)
 
 returns-5 : tie.Need-returns-5
 unfolding askLink pick
 returns-5 c =
-    let lives = sym (c .before .before .before .before .before .before .before .is-ended .ensures) ∙ c .before .before .before .before .before .before .if1 .left in
-    let timely = sym (c .before .before .before .before .before .is-expired .ensures) ∙ c .before .before .before .before .if2 .left in
-    let offered = sym (c .before .before .before .is-offered .ensures) ∙ not-false _ (c .before .before .if3 .left) in
+    let third = c .before .before in
+    let second = third .before .before in
+    let first = second .before .before in
+    let lives = sym (first .before .is-ended .ensures) ∙ first .if1 .left in
+    let timely = sym (second .before .is-expired .ensures) ∙ second .if2 .left in
+    let offered = sym (third .before .is-offered .ensures) ∙ not-false _ (third .if3 .left) in
     let room = sym (c .before .is-link-left .ensures) ∙ not-false _ (c .if4 .left) in
     rw (lives, timely, offered, room)
 

@@ -19,8 +19,8 @@ returns-2 c =
     let k = c .before .before .before .before .before .before .before .next-waiting in
     let h : k .result < m .count = omega (arith, c .before .before .before .before .before .count .ensures, c .before .before .before .before .if2 .taken) in
     let l = c .before .before .link-at .ensures ∙ sym (live-in (s .args .s .now) (k .result) (s .pre .1) h) in
-    let asked = c .before .before .before .before .before .before .before .before .before .before in
-    let idle = sym (asked .is-idle .ensures) ∙ not-false _ (c .before .before .before .before .before .before .before .before .before .if1 .left) in
+    let first = c .before .before .before .before .before .before .before .before .before in
+    let idle = sym (first .before .is-idle .ensures) ∙ not-false _ (first .if1 .left) in
     let some = ap (λ (i : ℕ). ltb i (m .count)) (sym (k .ensures)) ∙ lt-ltb _ _ h in
     let r = ap (dispatched m p (k .result)) l ∙ ap (λ (i : ℕ). dispatched m p i (liveAt m i)) (k .ensures) in
     (c .dispatch .ensures .0 ∙ r ∙ sym (pick-true _ _ _ idle ∙ pick-true _ _ _ some), c .dispatch .ensures .1)
@@ -31,7 +31,8 @@ returns-3 c =
     let s = c .before .before .before .before .before .before .before .before .before in
     let m = view (s .args .s .now) in
     let k = c .before .before .before .before .next-waiting in
-    let idle = sym (c .before .before .before .before .before .before .before .is-idle .ensures) ∙ not-false _ (c .before .before .before .before .before .before .if1 .left) in
+    let first = c .before .before .before .before .before .before in
+    let idle = sym (first .before .is-idle .ensures) ∙ not-false _ (first .if1 .left) in
     let none = ap (λ (i : ℕ). ltb i (m .count)) (sym (k .ensures)) ∙ le-ltb (k .result) (m .count) (omega (arith, c .before .before .count .ensures, c .before .if2 .left)) in
     (refused (c .coded2 .ensures) (pick-true _ _ _ idle ∙ pick-false _ _ _ none), s .pre .2)
 

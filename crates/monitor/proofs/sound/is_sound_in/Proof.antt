@@ -23,11 +23,12 @@ parties-found-requires c κs =
 
 returns-3 : tie.Need-returns-3
 returns-3 c =
-    let m = view (c .before .before .before .before .before .before .before .before .before .args .s .now) in
-    let n = c .before .before .before .before .before .before .before .before .count .ensures in
-    let l = c .before .before .before .before .before .links-found in
+    let passed = c .before .before .before .before .before in
+    let few = passed .before .before in
+    let m = view (few .before .before .args .s .now) in
+    let n = few .before .count .ensures in
     (λ z. leb (c .before .last-link .ensures z) 60000 && (leb (c .last-tx .ensures z) 60000 && c .before .before .parties-found .ensures z))
-    ∙ sym (links-fine m (omega (arith, n, c .before .before .before .before .before .before .before .if1 .left)) (sym (l .ensures .0) ∙ not-false _ (c .before .before .before .before .if2 .left)))
+    ∙ sym (links-fine m (omega (arith, n, few .if1 .left)) (sym (passed .links-found .ensures .0) ∙ not-false _ (c .before .before .before .before .if2 .left)))
 
 pub is-sound-in-spec : {M : Type 1} → statement M
 is-sound-in-spec =

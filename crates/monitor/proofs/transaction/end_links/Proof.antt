@@ -28,19 +28,19 @@ abbrev μ-loop : tie.MeasureT-loop
 
 loop-again : tie.Need-loop-again Inv-loop μ-loop
 loop-again c =
-    let l = c .before .before .before .before .link-at in
-    sweep-put (c .before .before .before .before .before .before .before .loop .inv) (omega arith) (l .ensures) _ (c .put-link .ensures) (stays _ _ (c .before .before .if1 .taken))
+    let l = c .before .before .before .before in
+    sweep-put (l .before .before .before .loop .inv) (omega arith) (l .link-at .ensures) _ (c .put-link .ensures) (stays _ _ (c .before .before .if1 .taken))
 
 loop-again-2 : tie.Need-loop-again-2 Inv-loop μ-loop
 loop-again-2 c =
-    let l = c .before .before .before .before .before .before .before .link-at in
+    let l = c .before .before .before .before .before .before .before in
     let becomes = orphans _ _ _ (c .before .before .before .before .before .if1 .left) (c .before .before .before .if2 .taken) (c .before .before .orphan .ensures) in
-    sweep-put (c .before .before .before .before .before .before .before .before .before .before .loop .inv) (omega arith) (l .ensures) _ (c .put-link2 .ensures) becomes
+    sweep-put (l .before .before .before .loop .inv) (omega arith) (l .link-at .ensures) _ (c .put-link2 .ensures) becomes
 
 loop-again-3 : tie.Need-loop-again-3 Inv-loop μ-loop
 loop-again-3 c =
-    let l = c .before .before .before .before .link-at in
-    sweep-drop (c .before .before .before .before .before .before .before .loop .inv) (omega arith) (l .ensures) (goes _ _ (c .before .before .if1 .left) (c .if2 .left))
+    let l = c .before .before .before .before in
+    sweep-drop (l .before .before .before .loop .inv) (omega arith) (l .link-at .ensures) (goes _ _ (c .before .before .if1 .left) (c .if2 .left))
 
 pub end-links-spec : {M : Type 1} → statement M
 end-links-spec =

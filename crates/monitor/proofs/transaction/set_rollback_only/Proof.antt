@@ -12,12 +12,13 @@ returns c = (ap (withParties (view (c .before .args .s .now))) (sym (pick-true _
 returns-2 : tie.Need-returns-2
 unfolding rollbackOnlyIn
 returns-2 c =
-    let m = view (c .before .before .before .before .before .before .before .before .args .s .now) in
+    let first = c .before .before .before .before .before .before .before in
+    let m = view (first .before .args .s .now) in
     let o = c .before .before .before .before .before .owner in (
       c .put-party .ensures .0
           ∙ ap (λ (q : Party). withParty m (o .result) (rollbackOnly q)) (c .before .before .party-at .ensures)
           ∙ ap (λ (k : ℕ). withParty m k (rollbackOnly (party m k))) (o .ensures)
-          ∙ ap (withParties m) (sym (pick-false _ _ _ (ne-eqb _ _ (c .before .before .before .before .before .before .before .if1 .left)))),
+          ∙ ap (withParties m) (sym (pick-false _ _ _ (ne-eqb _ _ (first .if1 .left)))),
       c .put-party .ensures .1,
     )
 
