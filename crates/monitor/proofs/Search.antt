@@ -28,6 +28,7 @@ module _ {A : Type 0} {f : A → Bool} {s : List A} {at : ℕ → A} {n i : ℕ}
   pub tested : {x : A} {b c : Bool} → x ≡ at i → b ≡ f x → b ≡ c → f (at i) ≡ c
   tested r t e = ap f (sym r) ∙ sym t ∙ e
 
+  -- it passes, or the next place comes
   module _ (k : i < n) where
     pub found-first : f (at i) ≡ true → i ≡ firstOf f s
     unfolding firstOf
@@ -42,6 +43,7 @@ module _ {A : Type 0} {f : A → Bool} {s : List A} {at : ℕ → A} {n i : ℕ}
         let z : firstOf f (drop i s) ≡ suc (firstOf f (drop (i + 1) s)) = ap (firstOf f) (g .next i k) ∙ pick-false _ _ _ t in
         record { inside = omega arith; long = g .long; next = g .next; none = omega arith }
 
+  -- past the last: none does
   module _ (k : n ≤ i) where
     pub none-first : n ≡ firstOf f s
     unfolding firstOf

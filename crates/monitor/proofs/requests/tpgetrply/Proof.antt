@@ -47,7 +47,8 @@ own c =
 returns-3 : tie.Need-returns-3
 returns-3 c =
     let asked = c .before .before in
-    (refused (c .coded3 .ensures) (own asked ∙ pick-false _ _ _ (ap not (c .before .if3 .taken))), asked .before .before .before .before .before .before .before .before .before .before .before .pre .1)
+    let s = asked .before .before .before .before .before .before .before .before .before .before .before in
+    (refused (c .coded3 .ensures) (own asked ∙ pick-false _ _ _ (ap not (c .before .if3 .taken))), s .pre .1)
 
 returns-4 : tie.Need-returns-4
 returns-4 c =
