@@ -22,9 +22,9 @@ use Rattle.rules.specs.Step.{callOf}
 use Rattle.rules.specs.declared.Call.{Call}
 use Rattle.rules.specs.declared.Stepped.{Stepped}
 use Rattle.rules.specs.declared.Monitor.{Monitor}
-use Rattle.monitor.specs.File.{Numbers, numbers, stopped, ahead, onward, readNumbers}
-use Rattle.monitor.specs.File.{CallReading, called, nothing, broken, asCall, readCall, Calls, noCalls, withCall, further, callsFrom, codeAt}
-use Rattle.monitor.specs.File.{Passed, passed, afterCalls, fileCalls, pieceRun, pieceOf, fileOf}
+use Rattle.monitor.specs.File.{Numbers, numbers, stopped, ahead, onward, readNumbers, CallReading, called, nothing}
+use Rattle.monitor.specs.File.{broken, asCall, readCall, Calls, noCalls, withCall, further, callsFrom, codeAt, Passed}
+use Rattle.monitor.specs.File.{passed, afterCalls, fileCalls, pieceRun, pieceOf, fileOf}
 use Rattle.rules.proofs.Logic.{pick-true, pick-false, byTest}
 
 -- ---- numbers one after the other
@@ -129,7 +129,9 @@ numbers-end (suc count) input place values next e =
     gone : (code : ℕ) → readNumber 5 32 input place ≡ refused code → (place + suc count ≤ next) × (place ≤ length input → next ≤ length input)
     gone code r = let s = no-more count input place code r in let z : _≡_ {A = ℕ} 0 1 = cc in absurd (omega arith)
 
-    here : ((after : ℕ) (more : List ℕ) → readNumbers count input after ≡ numbers more next → (after + count ≤ next) × (after ≤ length input → next ≤ length input))
+    here :
+        ((after : ℕ) (more : List ℕ) → readNumbers count input after ≡ numbers more next
+        → (after + count ≤ next) × (after ≤ length input → next ≤ length input))
         → (value after : ℕ) → readNumber 5 32 input place ≡ number value after → (place + suc count ≤ next) × (place ≤ length input → next ≤ length input)
     here shorter value after r =
         let rest = ahead-read (value ∷ []) (readNumbers count input after) values next (sym (one-more count input place value after r) ∙ e) in
@@ -210,7 +212,8 @@ module _ {input : List ℕ} {at n : ℕ} (k : Counts input at n) where
   pub counts-broken : (code : ℕ) → readCall input at ≡ broken code → n ≡ callsFrom (length input) input 0 .count
   counts-broken code e = let z = ap (λ (w : Calls). w .count) (calls-broken (length input - n) input at code e) in omega (arith, k .tells)
 
--- `n` of the calls that are to be run have been run: `all` of them from the record `m`, and the rest from `cur`. Their answers stand in `out`, which was `out₀`.
+-- `n` of the calls that are to be run have been run: `all` of them from the record `m`, and the rest from `cur`.
+-- Their answers stand in `out`, which was `out₀`.
 pub record Runs (m : Monitor) (input : List ℕ) (all : Calls) (most : ℕ) (out₀ out : List ℤ) (cur : Monitor) (at n : ℕ) : Type 0 where
   pub few : n ≤ most
   pub room : most * 6 ≤ length out₀
@@ -221,8 +224,10 @@ pub record Runs (m : Monitor) (input : List ℕ) (all : Calls) (most : ℕ) (out
   pub kept : drop (n * 6) out ≡ drop (n * 6) out₀
   pub counted : all .count ≡ n + callsFrom (most - n) input at .count
   pub ends : all .next ≡ callsFrom (most - n) input at .next
-  pub ran : ranOf (all .count) m (all .numbers) ≡ ranOf (callsFrom (most - n) input at .count) cur (callsFrom (most - n) input at .numbers)
-  pub said : answersOf (all .count) m (all .numbers) ≡ take (n * 6) out ++ answersOf (callsFrom (most - n) input at .count) cur (callsFrom (most - n) input at .numbers)
+  pub ran : let rest = callsFrom (most - n) input at in
+      ranOf (all .count) m (all .numbers) ≡ ranOf (rest .count) cur (rest .numbers)
+  pub said : let rest = callsFrom (most - n) input at in
+      answersOf (all .count) m (all .numbers) ≡ take (n * 6) out ++ answersOf (rest .count) cur (rest .numbers)
 
 pub runs-none : (m : Monitor) (input : List ℕ) (out : List ℤ) → length out < 2 ^ 63 → sound m ≡ true
     → Runs m input (callsFrom (length out / 6) input 0) (length out / 6) out out m 0 0
@@ -242,7 +247,8 @@ runs-none m input out bound h =
       said = ap (λ (f : ℕ). answersOf (callsFrom f input 0 .count) m (callsFrom f input 0 .numbers)) none;
     }
 
-module _ {m : Monitor} {input : List ℕ} {all : Calls} {most : ℕ} {out₀ out : List ℤ} {cur : Monitor} {at n : ℕ} (k : Runs m input all most out₀ out cur at n) where
+module _ {m : Monitor} {input : List ℕ} {all : Calls} {most : ℕ} {out₀ out : List ℤ} {cur : Monitor} {at n : ℕ}
+    (k : Runs m input all most out₀ out cur at n) where
   module _ (c : Call) (next : ℕ) (e : readCall input at ≡ called c next) (h : n < most) where
     rest : Calls
     rest = callsFrom (most - (n + 1)) input next
@@ -260,7 +266,8 @@ module _ {m : Monitor} {input : List ℕ} {all : Calls} {most : ℕ} {out₀ out
         let done : List ℤ = take (n * 6) out ++ placesOf (s .answer) in
         let room = k .room in
         let long = k .long in
-        let front : length done ≡ (n + 1) * 6 = length-append (take (n * 6) out) (placesOf (s .answer)) ∙ omega (arith, length-take-le (n * 6) out (omega arith)) in
+        let before = length-take-le (n * 6) out (omega arith) in
+        let front : length done ≡ (n + 1) * 6 = length-append (take (n * 6) out) (placesOf (s .answer)) ∙ omega arith in
         let six : n * 6 + 6 ≡ (n + 1) * 6 = omega arith in
         record {
           few = omega arith;
@@ -312,11 +319,12 @@ module _ {m : Monitor} {input : List ℕ} {all : Calls} {most : ℕ} {out₀ out
       ∙ take-append-drop (n * 6) out
       in
       let told : codeAt last (readCall input (all .next)) ≡ code = ap (λ (p : ℕ). codeAt last (readCall input p)) next ∙ sym tells in
+      let listed = answersOf (all .count) m (all .numbers) ++ drop (all .count * 6) out₀ in
       sym
-      (ap (λ (x : Monitor). passed x (codeAt last (readCall input (all .next))) (all .count) (all .next) (answersOf (all .count) m (all .numbers) ++ drop (all .count * 6) out₀)) after
-      ∙ ap (λ (x : ℤ). passed cur x (all .count) (all .next) (answersOf (all .count) m (all .numbers) ++ drop (all .count * 6) out₀)) told
-      ∙ ap (λ (x : ℕ). passed cur code x (all .next) (answersOf (all .count) m (all .numbers) ++ drop (all .count * 6) out₀)) count
-      ∙ ap (λ (x : ℕ). passed cur code n x (answersOf (all .count) m (all .numbers) ++ drop (all .count * 6) out₀)) next
+      (ap (λ (x : Monitor). passed x (codeAt last (readCall input (all .next))) (all .count) (all .next) listed) after
+      ∙ ap (λ (x : ℤ). passed cur x (all .count) (all .next) listed) told
+      ∙ ap (λ (x : ℕ). passed cur code x (all .next) listed) count
+      ∙ ap (λ (x : ℕ). passed cur code n x listed) next
       ∙ ap (passed cur code n at) places)
 
   -- the places are used up
@@ -328,7 +336,8 @@ module _ {m : Monitor} {input : List ℕ} {all : Calls} {most : ℕ} {out₀ out
       none = omega arith
 
 -- "Is the record sound?"
-pub piece-sound : (m : Monitor) (input : List ℕ) (last : Bool) (out : List ℤ) → sound m ≡ true → (p : Passed) → p ≡ pieceRun m input last out → p ≡ pieceOf m input last out
+pub piece-sound : (m : Monitor) (input : List ℕ) (last : Bool) (out : List ℤ) → sound m ≡ true → (p : Passed) → p ≡ pieceRun m input last out
+    → p ≡ pieceOf m input last out
 unfolding pieceOf
 piece-sound m input last out h p e = e ∙ sym (pick-true (sound m) _ _ h)
 

@@ -71,7 +71,8 @@ none-marked p (x ∷ l) ps = test (ownEnd p x)
     ∙ none-marked p l ps
     ∙ ap (rollbackOnlyBy p l) (sym (pick-false _ _ _ (not-own p x e))))
 
-pub close-start : (p : ℕ) (ws : List ℕ) (from : ℕ) → length ws ≡ words → view ws .count ≤ 32 → from ≡ firstOf (ownEnd p) (live (view ws)) → Closes p ws ws from from
+pub close-start : (p : ℕ) (ws : List ℕ) (from : ℕ) → length ws ≡ words → view ws .count ≤ 32 → from ≡ firstOf (ownEnd p) (live (view ws))
+    → Closes p ws ws from from
 close-start p ws from n r e =
     record {
       sweep = sweep-first (closeEnd p) (ownEnd p) (stays p) ws from n r e;
@@ -80,15 +81,19 @@ close-start p ws from n r e =
 
 module _ {p : ℕ} {ws xs : List ℕ} {i j : ℕ} (g : Closes p ws xs i j) where
   module _ (k : i < view ws .count) {l : Link} (r : l ≡ linkIn (view xs) i) where
-    next : (ps : List Party) → rollbackOnlyBy p (drop i (live (view ws))) ps ≡ rollbackOnlyBy p (drop (i + 1) (live (view ws))) (pick (originatorEnd p l) (rollbackOnlyIn (l .tx) ps) ps)
+    next : (ps : List Party)
+        → let marks = pick (originatorEnd p l) (rollbackOnlyIn (l .tx) ps) ps in
+        rollbackOnlyBy p (drop i (live (view ws))) ps ≡ rollbackOnlyBy p (drop (i + 1) (live (view ws))) marks
     unfolding rollbackOnlyBy
     next ps =
         let n = links-long 32 0 ws in
         let h = g .sweep .room in
         ap (λ (ls : List Link). rollbackOnlyBy p ls ps)
-        (live-cons (view ws .count) (view ws .links) i freshLink (omega arith) k ∙ ap (λ (x : Link). x ∷ drop (i + 1) (live (view ws))) (sym (as-first (g .sweep) k r)))
+        (live-cons (view ws .count) (view ws .links) i freshLink (omega arith) k
+        ∙ ap (λ (x : Link). x ∷ drop (i + 1) (live (view ws))) (sym (as-first (g .sweep) k r)))
 
-    on : (ps : List Party) (zs : List ℕ) (m : ℕ) → Sweeps (closeEnd p) ws (withParties (view ws) ps) zs (i + 1) m → view zs .parties ≡ ps → ps ≡ pick (originatorEnd p l) (rollbackOnlyIn (l .tx) (view xs .parties)) (view xs .parties) → Closes p ws zs (i + 1) m
+    on : (ps : List Party) (zs : List ℕ) (m : ℕ) → Sweeps (closeEnd p) ws (withParties (view ws) ps) zs (i + 1) m → view zs .parties ≡ ps
+        → ps ≡ pick (originatorEnd p l) (rollbackOnlyIn (l .tx) (view xs .parties)) (view xs .parties) → Closes p ws zs (i + 1) m
     on ps zs m s e q =
         record {
           sweep = subst (λ (y : List Party). Sweeps (closeEnd p) ws (withParties (view ws) y) zs (i + 1) m) (sym e) s;
@@ -100,7 +105,8 @@ module _ {p : ℕ} {ws xs : List ℕ} {i j : ℕ} (g : Closes p ws xs i j) where
       pub close-drop : closeEnd p l ≡ [] → Closes p ws xs (i + 1) j
       close-drop q = on _ xs j (sweep-drop (g .sweep) k r q) refl (sym (pick-false _ _ _ o))
 
-      pub close-put : {x : Link} (ys : List ℕ) → (view ys ≡ replaced (view xs) j x) × (length ys ≡ words) → closeEnd p l ≡ x ∷ [] → Closes p ws ys (i + 1) (j + 1)
+      pub close-put : {x : Link} (ys : List ℕ) → (view ys ≡ replaced (view xs) j x) × (length ys ≡ words) → closeEnd p l ≡ x ∷ []
+          → Closes p ws ys (i + 1) (j + 1)
       close-put ys e q = on _ ys (j + 1) (sweep-put (g .sweep) k r ys e q) (ap (λ (m : Monitor). m .parties) (e .0)) (sym (pick-false _ _ _ o))
 
     -- a conversation of its own
@@ -108,7 +114,8 @@ module _ {p : ℕ} {ws xs : List ℕ} {i j : ℕ} (g : Closes p ws xs i j) where
       pub mark-drop : (ys : List ℕ) → (view ys ≡ rollbackOnlyTx (view xs) (l .tx)) × (length ys ≡ words) → closeEnd p l ≡ [] → Closes p ws ys (i + 1) j
       mark-drop ys e q = on _ ys j (sweep-parties (sweep-drop (g .sweep) k r q) ys e) (ap (λ (m : Monitor). m .parties) (e .0)) (sym (pick-true _ _ _ o))
 
-      pub mark-put : {x : Link} (ys zs : List ℕ) → (view ys ≡ replaced (view xs) j x) × (length ys ≡ words) → (view zs ≡ rollbackOnlyTx (view ys) (l .tx)) × (length zs ≡ words) → closeEnd p l ≡ x ∷ [] → Closes p ws zs (i + 1) (j + 1)
+      pub mark-put : {x : Link} (ys zs : List ℕ) → (view ys ≡ replaced (view xs) j x) × (length ys ≡ words)
+          → (view zs ≡ rollbackOnlyTx (view ys) (l .tx)) × (length zs ≡ words) → closeEnd p l ≡ x ∷ [] → Closes p ws zs (i + 1) (j + 1)
       mark-put ys zs e d q =
           on _ zs (j + 1) (sweep-parties (sweep-put (g .sweep) k r ys e q) zs d) (ap (λ (m : Monitor). m .parties) (d .0))
           (ap (λ (m : Monitor). rollbackOnlyIn (l .tx) (m .parties)) (e .0) ∙ sym (pick-true _ _ _ o))
@@ -116,5 +123,6 @@ module _ {p : ℕ} {ws xs : List ℕ} {i j : ℕ} (g : Closes p ws xs i j) where
   pub close-end : (ys : List ℕ) → i ≡ view ws .count → view ys ≡ rebuilt (view xs) (take j (view xs .links)) → view ys ≡ closeOwn (view ws) p
   unfolding closeOwn rollbackOnlyBy
   close-end ys e k =
-      let d : view xs .parties ≡ rollbackOnlyBy p (live (view ws)) (view ws .parties) = ap (λ (ls : List Link). rollbackOnlyBy p ls (view xs .parties)) (sym (end-live ws i (g .sweep .room) (omega (arith, e)))) ∙ g .marked in
+      let none = sym (end-live ws i (g .sweep .room) (omega (arith, e))) in
+      let d = ap (λ (ls : List Link). rollbackOnlyBy p ls (view xs .parties)) none ∙ g .marked in
       swept (g .sweep) ys e k ∙ ap (λ (ps : List Party). rebuilt (withParties (view ws) ps) (collect (closeEnd p) (live (view ws)))) d

@@ -16,7 +16,8 @@ use Rattle.number.proofs.Groups.{bytes-some}
 use Rattle.number.proofs.RoundTrip.{bytes-are-read}
 use Rattle.number.proofs.Reading.{below-or-not}
 use Rattle.rules.specs.Run.{callAt}
-use Rattle.monitor.specs.File.{numbers, ahead, readNumbers, called, asCall, readCall, Calls, noCalls, withCall, callsFrom, fileCalls, fileBytes, wrote, writeAnswer, writeBuffer}
+use Rattle.monitor.specs.File.{numbers, ahead, readNumbers, called, asCall, readCall, Calls, noCalls, withCall}
+use Rattle.monitor.specs.File.{callsFrom, fileCalls, fileBytes, wrote, writeAnswer, writeBuffer}
 use Rattle.monitor.proofs.Calls.{one-more, call-some, call-none, calls-one, calls-nothing}
 use Rattle.monitor.proofs.Writes.{unfinished-answer, little-answer, enough-answer, enough-buffer}
 
@@ -149,7 +150,8 @@ module _ (buffer : List ℕ) (place : ℕ) (calls : List ℕ) (next : ℕ) (e : 
       let n = written-next in
       let long : next - place ≡ length bytes = omega arith in
       let room = fits in
-      ap (λ (l : List ℕ). take (next - place) (drop place l)) (sym (enough-buffer buffer place calls whole fits) ∙ sets-eq bytes buffer place fits ∙ append-assoc (take place buffer) bytes after)
+      let w = sym (enough-buffer buffer place calls whole fits) ∙ sets-eq bytes buffer place fits ∙ append-assoc (take place buffer) bytes after in
+      ap (λ (l : List ℕ). take (next - place) (drop place l)) w
       ∙ ap (take (next - place)) (drop-at (take place buffer) (bytes ++ after) place (length-take-le place buffer (omega arith)))
       ∙ take-at bytes after (next - place) (sym long)
 

@@ -15,6 +15,7 @@ use Rattle.rules.specs.declared.Monitor.{Monitor}
 use Rattle.rules.specs.Record.{live, party, placeOf, linkOf, replaced, changed, freshParty, freshLink}
 use Rattle.rules.specs.Sound.{sound}
 use Rattle.rules.proofs.Logic.{pick-true, byTest}
+use Rattle.rules.proofs.Fine.{Shape}
 use Rattle.monitor.specs.View.{linkAt, partyAt, linksFrom, partiesFrom, view, linkIn, liveAt, changedAt}
 use Rattle.monitor.proofs.Lists.{live-cons, live-end, live-at, live-past, rest-cons}
 
@@ -53,6 +54,10 @@ pub parties-long : (n i : ℕ) (xs : List ℕ) → length (partiesFrom n i xs) �
 unfolding partiesFrom
 parties-long zero i xs = refl
 parties-long (suc n) i xs = ap suc (parties-long n (suc i) xs)
+
+-- the record that the code holds has the declared lengths
+pub view-shape : (xs : List ℕ) → Shape (view xs)
+view-shape xs = record { parties16 = parties-long 16 0 xs; links32 = links-long 32 0 xs }
 
 pub parties-at : (n i : ℕ) (xs : List ℕ) (j : ℕ) (d : Party) → j < n → getD (partiesFrom n i xs) j d ≡ partyAt xs (i + j)
 unfolding partiesFrom

@@ -50,14 +50,16 @@ module _ (m : Monitor) (t a : ℕ) {code : ℤ} (e : Asked m t a code) where
       let e2 = passes m (not (expired m t)) 27 _ (e1 .1) in
       let e3 = passes m (anyOf (offers a) (m .parties)) 24 _ (e2 .1) in
       let e4 = passes m (linkLeft m) 25 _ (e3 .1) in
-      let left = and-l (ltb (m .count) 32) _ (e4 .0) in
-      let numbers = and-r (ltb (m .count) 32) _ (e4 .0) in
-      (ltb-true _ _ left, ltb-true _ _ numbers, λ rest. pick-true _ _ _ (e1 .0) ∙ pick-true _ _ _ (e2 .0) ∙ pick-true _ _ _ (e3 .0) ∙ pick-true _ _ _ (e4 .0))
+      let few = ltb-true _ _ (and-l (ltb (m .count) 32) _ (e4 .0)) in
+      let early = ltb-true _ _ (and-r (ltb (m .count) 32) _ (e4 .0)) in
+      (few, early, λ rest. pick-true _ _ _ (e1 .0) ∙ pick-true _ _ _ (e2 .0) ∙ pick-true _ _ _ (e3 .0) ∙ pick-true _ _ _ (e4 .0))
 
   one-stops : {r : Told} → (ofZ w64 code ≡ 0 → ⊥) → r ≡ toldCode (toZ w64 (ofZ w64 code)) → (rest : Ruled) → ruledBy r m ≡ askLink m t a rest
   unfolding askLink
   one-stops h r rest =
-      let k = stops m (not (ended m t)) 22 _ _ (stops m (not (expired m t)) 27 _ _ (stops m (anyOf (offers a) (m .parties)) 24 _ _ (stops m (linkLeft m) 25 _ rest (λ n. absurd (n refl))))) in
+      let k4 = stops m (linkLeft m) 25 _ rest (λ n. absurd (n refl)) in
+      let k3 = stops m (anyOf (offers a) (m .parties)) 24 _ _ k4 in
+      let k = stops m (not (ended m t)) 22 _ _ (stops m (not (expired m t)) 27 _ _ k3) in
       code-told m r ∙ ap (ruled m) (e .1 ∙ e .0) ∙ sym (k (λ n. h (ap (ofZ w64) (e .0 ∙ n))))
 
 -- ---- a rule that asks q first, of the service and the flags, and then all of those

@@ -22,11 +22,10 @@ use Rattle.rules.specs.declared.Monitor.{Monitor}
 use Rattle.rules.proofs.Fine.{Shape}
 use Rattle.rules.proofs.Kept.{SoundRecord, calls-sound-kept}
 use Rattle.rules.proofs.Logic.{pick-true, pick-false, byTest, test, not-both}
-use Rattle.monitor.specs.File.{CallReading, called, nothing, broken, readCall, Calls, noCalls, withCall, callsFrom, fileCalls, codeAt, Passed, passed, afterCalls, pieceRun, pieceOf, fileOf}
-use Rattle.monitor.specs.View.{view}
+use Rattle.monitor.specs.File.{CallReading, called, nothing, broken, readCall, Calls, noCalls, withCall, callsFrom}
+use Rattle.monitor.specs.File.{fileCalls, codeAt, Passed, passed, afterCalls, pieceRun, pieceOf, fileOf}
 use Rattle.monitor.specs.Pieces.{saidBy, leftBy, isRefused, isOver, thenTurns, lastTurns, turnsOf, joined, inFront, together, piecesOf, onto}
 use Rattle.monitor.proofs.Calls.{call-none, call-after, call-within, calls-one, calls-nothing, calls-broken, calls-few}
-use Rattle.monitor.proofs.Laws.{links-long, parties-long}
 use Rattle.monitor.proofs.Prefixes.{call-extends, call-shifts, code-shifts, calls-all, calls-split, calls-long, calls-end, call-breaks, nothing-none}
 
 -- ---- calls run one after the other
@@ -36,7 +35,14 @@ module _ (xs ys : List ℕ) (h : 6 ≤ length xs) where
   unfolding callAt
   front-call =
       let at : (k : ℕ) → k < 6 → getD (xs ++ ys) k 0 ≡ getD xs k 0 = λ k less. List·getD-append xs ys 0 k (omega arith) in
-      λ i. record { clock = at 0 (omega arith) i; party = at 1 (omega arith) i; kind = at 2 (omega arith) i; a = at 3 (omega arith) i; b = at 4 (omega arith) i; c = at 5 (omega arith) i }
+      λ i. record {
+        clock = at 0 (omega arith) i;
+        party = at 1 (omega arith) i;
+        kind = at 2 (omega arith) i;
+        a = at 3 (omega arith) i;
+        b = at 4 (omega arith) i;
+        c = at 5 (omega arith) i;
+      }
 
   front-rest : drop 6 (xs ++ ys) ≡ drop 6 xs ++ ys
   front-rest = drop-append-le 6 xs ys h
@@ -58,7 +64,8 @@ answers-append zero b m (x ∷ xs) ys h = absurd (omega arith)
 answers-append (suc a) b m xs ys h =
     let s = callOf m (callAt xs) in
     ap (λ (k : ℕ). answersOf k m (xs ++ ys)) (suc-add a b)
-    ∙ (λ i. placesOf (callOf m (front-call xs ys (omega arith) i) .answer) ++ answersOf (a + b) (callOf m (front-call xs ys (omega arith) i) .monitor) (front-rest xs ys (omega arith) i))
+    ∙ (λ i. let front = callOf m (front-call xs ys (omega arith) i) in
+    placesOf (front .answer) ++ answersOf (a + b) (front .monitor) (front-rest xs ys (omega arith) i))
     ∙ ap (λ (l : List ℤ). placesOf (s .answer) ++ l) (answers-append a b (s .monitor) (drop 6 xs) ys (omega (arith, length-drop 6 xs)))
     ∙ sym (append-assoc (placesOf (s .answer)) (answersOf a (s .monitor) (drop 6 xs)) (answersOf b (ranOf a (s .monitor) (drop 6 xs)) ys))
 
@@ -129,7 +136,8 @@ module _ (m : Monitor) (left more : List ℕ) (last : Bool) (ended : last ≡ tr
       ∙ ap (λ (r : CallReading). passed m (codeAt true r) 0 0 []) e
 
   -- where the file is over, the rest has no call, and its code is the turn's
-  over-whole : (r : CallReading) → readCall left 0 ≡ r → isOver last (codeAt last r) (length left) ≡ true → wholeRun m (left ++ more) ≡ passed m (codeAt last r) 0 0 []
+  over-whole : (r : CallReading) → readCall left 0 ≡ r → isOver last (codeAt last r) (length left) ≡ true
+      → wholeRun m (left ++ more) ≡ passed m (codeAt last r) 0 0 []
   unfolding isOver isRefused codeAt pick
   over-whole (called c next) e over =
       test last
@@ -165,13 +173,16 @@ module _ (m : Monitor) (bytes : List ℕ) (last : Bool) (out : List ℤ) (room :
   Moves w = (length (drop (w .next) bytes) < length bytes) ⊎ ((last ≡ false) × (length (drop (w .next) bytes) ≤ 30))
 
   -- no call stands at the front: nothing is taken
-  stays : (r : CallReading) → readCall bytes 0 ≡ r → (w : Calls) → w ≡ noCalls 0 → GoesOn w → isOver true (codeAt true r) (length bytes) ≡ true → length bytes ≤ 30 → Moves w
+  stays : (r : CallReading) → readCall bytes 0 ≡ r → (w : Calls) → w ≡ noCalls 0 → GoesOn w → isOver true (codeAt true r) (length bytes) ≡ true
+      → length bytes ≤ 30 → Moves w
   unfolding GoesOn Moves
   stays r e w none on over few =
       subst Moves (sym none)
       (test last
       (λ l. not-both over
-      (ap (λ (b : Bool). isOver b (codeAt b r) (length bytes)) (sym l) ∙ ap (λ (x : CallReading). isOver last (codeAt last x) (length bytes)) (sym e) ∙ subst GoesOn none on))
+      (ap (λ (b : Bool). isOver b (codeAt b r) (length bytes)) (sym l)
+      ∙ ap (λ (x : CallReading). isOver last (codeAt last x) (length bytes)) (sym e)
+      ∙ subst GoesOn none on))
       (λ l. inr (l, few)))
 
   first : (r : CallReading) → readCall bytes 0 ≡ r → GoesOn (callsFrom (length out / 6) bytes 0) → Moves (callsFrom (length out / 6) bytes 0)
@@ -231,14 +242,16 @@ module _ (m : Monitor) (shape : Shape m) (bytes more : List ℕ) (last : Bool) (
       → together (turn .monitor) (turn .code) (after (turn .monitor) left) ≡ wholeOf (turn .monitor) (left ++ more)) where
     -- what comes after a turn on a sound record gives the whole of what the turn leaves
     rest-whole : sound m ≡ true
-        → together (turn .monitor) (turn .code) (pick (isOver last (turn .code) (length left)) [] (after (turn .monitor) left)) ≡ wholeRun (turn .monitor) (left ++ more)
+        → let rest = pick (isOver last (turn .code) (length left)) [] (after (turn .monitor) left) in
+        together (turn .monitor) (turn .code) rest ≡ wholeRun (turn .monitor) (left ++ more)
     unfolding together wholeOf
     rest-whole h =
         test (isOver last (turn .code) (length left))
         (λ over.
         ap (together (turn .monitor) (turn .code)) (pick-true (isOver last (turn .code) (length left)) _ _ over)
         ∙ ap (λ (code : ℤ). passed (turn .monitor) code 0 0 []) code-left
-        ∙ sym (over-whole (turn .monitor) left more last ended (readCall left 0) refl (subst (λ (code : ℤ). isOver last code (length left) ≡ true) code-left over)))
+        ∙ sym (over-whole (turn .monitor) left more last ended (readCall left 0) refl
+        (subst (λ (code : ℤ). isOver last code (length left) ≡ true) code-left over)))
         (λ on.
         ap (together (turn .monitor) (turn .code)) (pick-false (isOver last (turn .code) (length left)) _ _ on)
         ∙ later (turn-sound h) on
@@ -269,7 +282,8 @@ last-whole zero lent room m shape bytes h m₀ code₀ = absurd (omega arith)
 last-whole (suc most) lent room m shape bytes h m₀ code₀ =
     turn-whole m shape bytes [] true (λ _. refl) (lent 0) m₀ code₀ (lastTurns most (λ k. lent (suc k)))
     (λ fine on.
-    last-whole most (λ k. lent (suc k)) (λ k. room (suc k)) _ (fine .shape) _ (⊎-elim (λ k. omega arith) (λ k. not-both refl (k .0)) (turn-moves m bytes true (lent 0) (room 0) on)) _ _
+    last-whole most (λ k. lent (suc k)) (λ k. room (suc k)) _ (fine .shape) _
+    (⊎-elim (λ k. omega arith) (λ k. not-both refl (k .0)) (turn-moves m bytes true (lent 0) (room 0) on)) _ _
     ∙ ap (wholeOf _) (sym (append-nil _)))
     ∙ ap (wholeOf m) (append-nil bytes)
 
@@ -324,10 +338,6 @@ pub cuts-agree : (m : Monitor) → Shape m → (chunks chunks′ : List (List �
 cuts-agree m shape chunks chunks′ final final′ lent lent′ room room′ same =
     pieces-whole m shape chunks final lent room ∙ ap (wholeOf m) same ∙ sym (pieces-whole m shape chunks′ final′ lent′ room′)
 
--- The record that the code holds has the declared lengths.
-pub view-shape : (words : List ℕ) → Shape (view words)
-view-shape words = record { parties16 = parties-long 16 0 words; links32 = links-long 32 0 words }
-
 -- six places for each call that a turn ran
 pub said-long : (m : Monitor) (bytes : List ℕ) (last : Bool) (out : List ℤ) → length (saidBy (pieceOf m bytes last out)) ≡ pieceOf m bytes last out .calls * 6
 unfolding pieceOf run w
@@ -360,4 +370,6 @@ piece-moves m bytes last out room =
     (λ _ on. not-both refl on)
   where
     Moves : Passed → Type 0
-    Moves p = isOver last (p .code) (length (leftBy p bytes)) ≡ false → (length (leftBy p bytes) < length bytes) ⊎ ((last ≡ false) × (length (leftBy p bytes) ≤ 30))
+    Moves p =
+        let left = length (leftBy p bytes) in
+        isOver last (p .code) left ≡ false → (left < length bytes) ⊎ ((last ≡ false) × (left ≤ 30))

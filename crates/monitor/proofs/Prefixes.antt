@@ -12,8 +12,8 @@ use lib.ListN.{length, drop, length-append, length-drop}
 use Rattle.number.specs.Reader.{Reading, number, refused, readNumber}
 use Rattle.number.proofs.Reading.{below-or-not, one-of-three, number-within, number-near, cut-near-end, answer-extends, shifted, number-shifts}
 use Rattle.rules.specs.declared.Call.{Call}
-use Rattle.monitor.specs.File.{Numbers, numbers, stopped, ahead, onward, readNumbers}
-use Rattle.monitor.specs.File.{CallReading, called, nothing, broken, asCall, readCall, Calls, noCalls, withCall, further, callsFrom, fileCalls, codeAt}
+use Rattle.monitor.specs.File.{Numbers, numbers, stopped, ahead, onward, readNumbers, CallReading, called, nothing, broken, asCall}
+use Rattle.monitor.specs.File.{readCall, Calls, noCalls, withCall, further, callsFrom, fileCalls, codeAt}
 use Rattle.monitor.proofs.Calls.{one-more, no-more, call-some, call-none, call-after, call-within, calls-one, calls-nothing, calls-broken, calls-few}
 
 -- ---- what follows
@@ -27,7 +27,9 @@ numbers-extend (suc count) input more place h whole =
     ap (λ (r : Reading). onward r (readNumbers count (input ++ more))) (answer-extends 5 32 input more place h (λ e. whole (no-more count input place 17 e)))
     ∙ same (λ next k w. numbers-extend count input more next k w) (readNumber 5 32 input place) refl
   where
-    same : ((next : ℕ) → next ≤ length input → (readNumbers count input next ≡ stopped 17 → ⊥) → readNumbers count (input ++ more) next ≡ readNumbers count input next)
+    same :
+        ((next : ℕ) → next ≤ length input → (readNumbers count input next ≡ stopped 17 → ⊥)
+        → readNumbers count (input ++ more) next ≡ readNumbers count input next)
         → (r : Reading) → readNumber 5 32 input place ≡ r → onward r (readNumbers count (input ++ more)) ≡ onward r (readNumbers count input)
     same rest (number value next) e =
         ap (ahead (value ∷ []))
@@ -53,7 +55,8 @@ unfoldable shiftedNumbers : ℕ → Numbers → Numbers
 shiftedNumbers by (numbers values next) = numbers values (by + next)
 shiftedNumbers by (stopped code) = stopped code
 
-onward-shifts : (by : ℕ) (r : Reading) (f g : ℕ → Numbers) → ((next : ℕ) → f (by + next) ≡ shiftedNumbers by (g next)) → onward (shifted by r) f ≡ shiftedNumbers by (onward r g)
+onward-shifts : (by : ℕ) (r : Reading) (f g : ℕ → Numbers) → ((next : ℕ) → f (by + next) ≡ shiftedNumbers by (g next))
+    → onward (shifted by r) f ≡ shiftedNumbers by (onward r g)
 unfolding onward shifted shiftedNumbers ahead
 onward-shifts by (number value next) f g same = ap (ahead (value ∷ [])) (same next) ∙ ahead-shifts (g next)
   where
@@ -130,7 +133,8 @@ then-none w = λ i. record { count = add-zero (w .count) i; numbers = append-nil
 
 -- The calls that the first bytes have, at most so many, are the first of the whole.
 calls-extend : (most n : ℕ) (input more : List ℕ) (place : ℕ)
-    → callsFrom (callsFrom most input place .count + n) (input ++ more) place ≡ andThen (callsFrom most input place) (callsFrom n (input ++ more) (callsFrom most input place .next))
+    → let w = callsFrom most input place in
+    callsFrom (w .count + n) (input ++ more) place ≡ andThen w (callsFrom n (input ++ more) (w .next))
 unfolding callsFrom withCall
 calls-extend zero n input more place = ap (λ (k : ℕ). callsFrom k (input ++ more) place) (zero-add n) ∙ none-then (callsFrom n (input ++ more) place) place
 calls-extend (suc most) n input more place = go (λ next. calls-extend most n input more next) (readCall input place) refl
@@ -144,14 +148,15 @@ calls-extend (suc most) n input more place = go (λ next. calls-extend most n in
     one : (c : Call) (next : ℕ) (w : Calls) → readCall input place ≡ called c next
         → callsFrom (w .count + n) (input ++ more) next ≡ andThen w (callsFrom n (input ++ more) (w .next)) → Splits (withCall c w)
     one c next w e f =
+        let rest = callsFrom n (input ++ more) (w .next) in
         ap (λ (k : ℕ). callsFrom k (input ++ more) place) (suc-add (w .count) n)
         ∙ calls-one (w .count + n) (input ++ more) place c next (called-extends input more place c next e)
         ∙ ap (withCall c) f
-        ∙ ap
-        (λ (k : ℕ). record { count = k; numbers = withCall c w .numbers ++ callsFrom n (input ++ more) (w .next) .numbers; next = callsFrom n (input ++ more) (w .next) .next })
-        (sym (suc-add (w .count) (callsFrom n (input ++ more) (w .next) .count)))
+        ∙ ap (λ (k : ℕ). record { count = k; numbers = withCall c w .numbers ++ rest .numbers; next = rest .next }) (sym (suc-add (w .count) (rest .count)))
 
-    go : ((next : ℕ) → callsFrom (callsFrom most input next .count + n) (input ++ more) next ≡ andThen (callsFrom most input next) (callsFrom n (input ++ more) (callsFrom most input next .next)))
+    go :
+        ((next : ℕ) → let w = callsFrom most input next in
+        callsFrom (w .count + n) (input ++ more) next ≡ andThen w (callsFrom n (input ++ more) (w .next)))
         → (r : CallReading) → readCall input place ≡ r → Splits (callsFrom (suc most) input place)
     go rest (called c next) e = subst Splits (sym (calls-one most input place c next e)) (one c next (callsFrom most input next) e (rest next))
     go rest nothing e = subst Splits (sym (calls-nothing (suc most) input place e)) none
@@ -220,7 +225,8 @@ calls-long (suc most) input place = go (calls-long most input) (readCall input p
     go rest (broken code) e = subst Long (sym (calls-broken (suc most) input place code e)) refl
 
 -- they end past the place where they start, and within the input
-pub calls-end : (most : ℕ) (input : List ℕ) (place : ℕ) → place ≤ length input → (place ≤ callsFrom most input place .next) × (callsFrom most input place .next ≤ length input)
+pub calls-end : (most : ℕ) (input : List ℕ) (place : ℕ) → place ≤ length input
+    → (place ≤ callsFrom most input place .next) × (callsFrom most input place .next ≤ length input)
 unfolding callsFrom withCall
 calls-end zero input place h = (omega arith, h)
 calls-end (suc most) input place h = go (calls-end most input) (readCall input place) refl
@@ -274,7 +280,8 @@ call-breaks input place code e =
     (λ h. let n = call-none input place h in let z : _≡_ {A = ℕ} 0 1 = cc in absurd (omega arith))
     (below-or-not place (length input))
   where
-    go : (ns : Numbers) → readNumbers 6 input place ≡ ns → asCall (readNumbers 6 input place) ≡ broken code → ((code ≡ 17) × (length input ≤ place + 30)) ⊎ (code ≡ 18)
+    go : (ns : Numbers) → readNumbers 6 input place ≡ ns → asCall (readNumbers 6 input place) ≡ broken code
+        → ((code ≡ 17) × (length input ≤ place + 30)) ⊎ (code ≡ 18)
     go (numbers values next) f g = let z : _≡_ {A = ℕ} 0 1 = cc in absurd (omega arith)
     go (stopped other) f g = let same : other ≡ code = cc in numbers-stop 6 input place code (f ∙ ap stopped same)
 

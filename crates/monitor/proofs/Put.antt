@@ -36,7 +36,9 @@ sets-past (a ∷ vs) l i k h = sets-past vs (set l i a) (suc i) k (omega arith) 
 
 sets-within : (vs l : List ℕ) (i j : ℕ) → j < length vs → i + length vs ≤ length l → getD (sets l i vs) (i + j) 0 ≡ getD vs j 0
 sets-within [] l i j h k = absurd (not-suc-le-zero h)
-sets-within (a ∷ vs) l i zero h k = ap (λ (n : ℕ). getD (sets (set l i a) (suc i) vs) n 0) (omega arith) ∙ sets-before vs (set l i a) (suc i) i (omega arith) ∙ getD-set-same l i a 0 (omega arith)
+sets-within (a ∷ vs) l i zero h k =
+    ap (λ (n : ℕ). getD (sets (set l i a) (suc i) vs) n 0) (omega arith)
+    ∙ sets-before vs (set l i a) (suc i) i (omega arith) ∙ getD-set-same l i a 0 (omega arith)
 sets-within (a ∷ vs) l i (suc j) h k =
     let e : i + suc j ≡ suc i + j = omega arith in
     let n = length-set l i a in
@@ -71,10 +73,36 @@ wordsAt xs at zero = []
 wordsAt xs at (suc n) = getD xs at 0 ∷ wordsFrom xs at 1 n
 
 linkFrom : List ℕ → Link
-linkFrom ws = record { number = getD ws 0 0; kind = getD ws 1 0; originator = getD ws 2 0; attached = getD ws 3 0; service = getD ws 4 0; tx = getD ws 5 0; state = getD ws 6 0; server = getD ws 7 0; first = getD ws 8 0; outcome = getD ws 9 0; ending = getD ws 10 0; sender = getD ws 11 0; granting = getD ws 12 0; disconnected = getD ws 13 0; unread = getD ws 14 0 ∷ getD ws 15 0 ∷ getD ws 16 0 ∷ getD ws 17 0 ∷ []; filled = getD ws 18 0 }
+linkFrom ws = record {
+  number = getD ws 0 0;
+  kind = getD ws 1 0;
+  originator = getD ws 2 0;
+  attached = getD ws 3 0;
+  service = getD ws 4 0;
+  tx = getD ws 5 0;
+  state = getD ws 6 0;
+  server = getD ws 7 0;
+  first = getD ws 8 0;
+  outcome = getD ws 9 0;
+  ending = getD ws 10 0;
+  sender = getD ws 11 0;
+  granting = getD ws 12 0;
+  disconnected = getD ws 13 0;
+  unread = getD ws 14 0 ∷ getD ws 15 0 ∷ getD ws 16 0 ∷ getD ws 17 0 ∷ [];
+  filled = getD ws 18 0;
+}
 
 partyFrom : List ℕ → Party
-partyFrom ws = record { opened = getD ws 0 0; control = getD ws 1 0; timeout = getD ws 2 0; services = getD ws 3 0 + getD ws 4 0 * 4294967296; owned = getD ws 5 0; deadline = getD ws 6 0 + getD ws 7 0 * 4294967296; rollbackonly = getD ws 8 0; served = getD ws 9 0 }
+partyFrom ws = record {
+  opened = getD ws 0 0;
+  control = getD ws 1 0;
+  timeout = getD ws 2 0;
+  services = getD ws 3 0 + getD ws 4 0 * 4294967296;
+  owned = getD ws 5 0;
+  deadline = getD ws 6 0 + getD ws 7 0 * 4294967296;
+  rollbackonly = getD ws 8 0;
+  served = getD ws 9 0;
+}
 
 headFrom : List ℕ → List Party → List Link → Monitor
 headFrom ws ps ls = record { clock = getD ws 0 0; lastlink = getD ws 1 0; lasttx = getD ws 2 0; parties = ps; links = ls; count = getD ws 3 0 }
@@ -103,7 +131,8 @@ unfolding wordsAt
 stored-words [] xs at h = refl
 stored-words (v ∷ vs) xs at h =
     let here = within-first (v ∷ vs) xs at (omega arith) h in
-    λ z. here z ∷ wordsFrom-is (stored xs at (v ∷ vs)) vs at 1 (λ j g. ap (λ (n : ℕ). getD (stored xs at (v ∷ vs)) (at + n) 0) (omega arith) ∙ within (v ∷ vs) xs at (suc j) (omega arith) h) z
+    let ys = stored xs at (v ∷ vs) in
+    λ z. here z ∷ wordsFrom-is ys vs at 1 (λ j g. ap (λ (n : ℕ). getD ys (at + n) 0) (omega arith) ∙ within (v ∷ vs) xs at (suc j) (omega arith) h) z
 
 -- ---- the same numbers make the same links and parties
 module _ (ys xs : List ℕ) where
@@ -134,7 +163,8 @@ module _ (ys xs : List ℕ) where
   parties-alike (suc m) p g = λ z. party-alike p (λ k a b. g k a (omega arith)) z ∷ parties-alike m (suc p) (λ k a b. g k (omega arith) (omega arith)) z
 
   -- ---- but for one of them
-  links-put : (l : Link) (m j d : ℕ) → d < m → Same ys xs (linkBase j) (linkBase (j + d)) → linkAt ys (j + d) ≡ l → Same ys xs (linkBase (j + d) + linkSize) (linkBase (j + m)) → linksFrom m j ys ≡ set (linksFrom m j xs) d l
+  links-put : (l : Link) (m j d : ℕ) → d < m → Same ys xs (linkBase j) (linkBase (j + d)) → linkAt ys (j + d) ≡ l
+      → Same ys xs (linkBase (j + d) + linkSize) (linkBase (j + m)) → linksFrom m j ys ≡ set (linksFrom m j xs) d l
   unfolding linksFrom
   links-put l zero j d h a e b = absurd (not-suc-le-zero h)
   links-put l (suc m) j zero h a e b =
@@ -142,9 +172,12 @@ module _ (ys xs : List ℕ) where
       λ z. (ap (linkAt ys) q ∙ e) z ∷ links-alike m (suc j) (λ k u v. b k (omega arith) (omega arith)) z
   links-put l (suc m) j (suc d) h a e b =
       let q : suc j + d ≡ j + suc d = omega arith in
-      λ z. link-alike j (λ k u v. a k u (omega arith)) z ∷ links-put l m (suc j) d (le-of-suc-le-suc h) (λ k u v. a k (omega arith) (omega arith)) (ap (linkAt ys) q ∙ e) (λ k u v. b k (omega arith) (omega arith)) z
+      let front : Same ys xs (linkBase (suc j)) (linkBase (suc j + d)) = λ k u v. a k (omega arith) (omega arith) in
+      let back : Same ys xs (linkBase (suc j + d) + linkSize) (linkBase (suc j + m)) = λ k u v. b k (omega arith) (omega arith) in
+      λ z. link-alike j (λ k u v. a k u (omega arith)) z ∷ links-put l m (suc j) d (le-of-suc-le-suc h) front (ap (linkAt ys) q ∙ e) back z
 
-  parties-put : (r : Party) (m j d : ℕ) → d < m → Same ys xs (partyBase j) (partyBase (j + d)) → partyAt ys (j + d) ≡ r → Same ys xs (partyBase (j + d) + partySize) (partyBase (j + m)) → partiesFrom m j ys ≡ set (partiesFrom m j xs) d r
+  parties-put : (r : Party) (m j d : ℕ) → d < m → Same ys xs (partyBase j) (partyBase (j + d)) → partyAt ys (j + d) ≡ r
+      → Same ys xs (partyBase (j + d) + partySize) (partyBase (j + m)) → partiesFrom m j ys ≡ set (partiesFrom m j xs) d r
   unfolding partiesFrom
   parties-put r zero j d h a e b = absurd (not-suc-le-zero h)
   parties-put r (suc m) j zero h a e b =
@@ -152,7 +185,9 @@ module _ (ys xs : List ℕ) where
       λ z. (ap (partyAt ys) q ∙ e) z ∷ parties-alike m (suc j) (λ k u v. b k (omega arith) (omega arith)) z
   parties-put r (suc m) j (suc d) h a e b =
       let q : suc j + d ≡ j + suc d = omega arith in
-      λ z. party-alike j (λ k u v. a k u (omega arith)) z ∷ parties-put r m (suc j) d (le-of-suc-le-suc h) (λ k u v. a k (omega arith) (omega arith)) (ap (partyAt ys) q ∙ e) (λ k u v. b k (omega arith) (omega arith)) z
+      let front : Same ys xs (partyBase (suc j)) (partyBase (suc j + d)) = λ k u v. a k (omega arith) (omega arith) in
+      let back : Same ys xs (partyBase (suc j + d) + partySize) (partyBase (suc j + m)) = λ k u v. b k (omega arith) (omega arith) in
+      λ z. party-alike j (λ k u v. a k u (omega arith)) z ∷ parties-put r m (suc j) d (le-of-suc-le-suc h) front (ap (partyAt ys) q ∙ e) back z
 
 -- ---- a link
 four : (u : List ℕ) → length u ≡ 4 → getD u 0 0 ∷ getD u 1 0 ∷ getD u 2 0 ∷ getD u 3 0 ∷ [] ≡ u
@@ -180,7 +215,9 @@ module _ (xs : List ℕ) (i : ℕ) (l : Link) (n : length xs ≡ words) (h : i <
       let hs = wordsFrom-alike ys xs headSize 0 0 (λ k a b. g k (omega arith)) in
       let ps = parties-alike ys xs 16 0 (λ k a b. g k (omega arith)) in
       let e : i ≡ 0 + i = omega arith in
-      let ls = links-put ys xs l 32 0 i h (λ k a b. before (linkWords l) xs (linkBase i) 0 k (omega arith) (omega arith)) (ap (linkAt ys) (sym e) ∙ link-there) (λ k a b. past (linkWords l) xs (linkBase i) words k (omega arith) (omega arith)) in
+      let front : Same ys xs (linkBase 0) (linkBase (0 + i)) = λ k a b. before (linkWords l) xs (linkBase i) 0 k (omega arith) (omega arith) in
+      let back : Same ys xs (linkBase (0 + i) + linkSize) words = λ k a b. past (linkWords l) xs (linkBase i) words k (omega arith) (omega arith) in
+      let ls = links-put ys xs l 32 0 i h front (ap (linkAt ys) (sym e) ∙ link-there) back in
       λ z. headFrom (hs z) (ps z) (ls z)
 
   pub put-link-law : (r : List ℕ) → r ≡ stored xs (linkBase i) (linkWords l) → (view r ≡ replaced (view xs) i l) × (length r ≡ words)
@@ -190,7 +227,8 @@ module _ (xs : List ℕ) (i : ℕ) (l : Link) (n : length xs ≡ words) (h : i <
 pub whole : (x a b : ℕ) → a ≡ x % 4294967296 → b ≡ x / 4294967296 → a + b * 4294967296 ≡ x
 whole x a b e f = let d = div-add-mod' x 4294967296 in omega (arith, e, f)
 
-module _ (xs : List ℕ) (p : ℕ) (q : Party) (sl sh dl dh : ℕ) (n : length xs ≡ words) (h : p < 16) (s : sl + sh * 4294967296 ≡ q .services) (d : dl + dh * 4294967296 ≡ q .deadline) where
+module _ (xs : List ℕ) (p : ℕ) (q : Party) (sl sh dl dh : ℕ) (n : length xs ≡ words) (h : p < 16)
+    (s : sl + sh * 4294967296 ≡ q .services) (d : dl + dh * 4294967296 ≡ q .deadline) where
   abbrev ws : List ℕ
   ws = partyWords q sl sh dl dh
 
@@ -206,7 +244,9 @@ module _ (xs : List ℕ) (p : ℕ) (q : Party) (sl sh dl dh : ℕ) (n : length x
   party-stored =
       let hs = wordsFrom-alike zs xs headSize 0 0 (λ k a b. before ws xs (partyBase p) 0 k (omega arith) (omega arith)) in
       let e : p ≡ 0 + p = omega arith in
-      let ps = parties-put zs xs q 16 0 p h (λ k a b. before ws xs (partyBase p) 0 k (omega arith) (omega arith)) (ap (partyAt zs) (sym e) ∙ party-there) (λ k a b. past ws xs (partyBase p) words k (omega arith) (omega arith)) in
+      let front : Same zs xs (partyBase 0) (partyBase (0 + p)) = λ k a b. before ws xs (partyBase p) 0 k (omega arith) (omega arith) in
+      let back : Same zs xs (partyBase (0 + p) + partySize) (partyBase (0 + 16)) = λ k a b. past ws xs (partyBase p) words k (omega arith) (omega arith) in
+      let ps = parties-put zs xs q 16 0 p h front (ap (partyAt zs) (sym e) ∙ party-there) back in
       let ls = links-alike zs xs 32 0 (λ k a b. past ws xs (partyBase p) words k (omega arith) (omega arith)) in
       λ z. headFrom (hs z) (ps z) (ls z)
 

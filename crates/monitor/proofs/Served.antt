@@ -31,7 +31,9 @@ module _ (p d : ℕ) (l : Link) where
 
   serves-not : same (l .number) d ≡ false → servedBy p d l ≡ false
   unfolding servedBy
-  serves-not e = ap (λ (x : Bool). same (l .server) p && (isWorking l && x)) e ∙ ap (λ (x : Bool). same (l .server) p && x) (and-false (isWorking l)) ∙ and-false (same (l .server) p)
+  serves-not e =
+      ap (λ (x : Bool). same (l .server) p && (isWorking l && x)) e
+      ∙ ap (λ (x : Bool). same (l .server) p && x) (and-false (isWorking l)) ∙ and-false (same (l .server) p)
 
 -- ---- good links: the first is past prev, and the rest past it
 module _ (last prev : ℕ) (l : Link) (ls : List Link) (g : linksGood last prev (l ∷ ls) ≡ true) where
@@ -73,7 +75,8 @@ chosen d n false true e z = ne-eqb d 0 z
 chosen d n false false e z = ne-eqb d 0 z
 
 module _ (last p d : ℕ) (z : d ≡ 0 → ⊥) where
-  finds-here : (l : Link) (ls : List Link) → linksGood last (l .number) ls ≡ true → same (l .number) d ≡ true → eqb d (foundOf p d 0 (l ∷ ls)) ≡ worksFor p (getD (l ∷ ls) (firstOf (numbered d) (l ∷ ls)) freshLink)
+  finds-here : (l : Link) (ls : List Link) → linksGood last (l .number) ls ≡ true → same (l .number) d ≡ true
+      → eqb d (foundOf p d 0 (l ∷ ls)) ≡ worksFor p (getD (l ∷ ls) (firstOf (numbered d) (l ∷ ls)) freshLink)
   unfolding foundOf firstOf worksFor numbered servedBy
   finds-here l ls g t =
       let e : l .number ≡ d = same-true _ _ t in
@@ -82,7 +85,8 @@ module _ (last p d : ℕ) (z : d ≡ 0 → ⊥) where
       ∙ chosen d (l .number) (same (l .server) p) (isWorking l) (sym e) z
       ∙ sym (ap (λ (k : ℕ). worksFor p (getD (l ∷ ls) k freshLink)) (pick-true _ _ _ t))
 
-  finds-later : (l : Link) (ls : List Link) → eqb d (foundOf p d 0 ls) ≡ worksFor p (getD ls (firstOf (numbered d) ls) freshLink) → same (l .number) d ≡ false → eqb d (foundOf p d 0 (l ∷ ls)) ≡ worksFor p (getD (l ∷ ls) (firstOf (numbered d) (l ∷ ls)) freshLink)
+  finds-later : (l : Link) (ls : List Link) → eqb d (foundOf p d 0 ls) ≡ worksFor p (getD ls (firstOf (numbered d) ls) freshLink)
+      → same (l .number) d ≡ false → eqb d (foundOf p d 0 (l ∷ ls)) ≡ worksFor p (getD (l ∷ ls) (firstOf (numbered d) (l ∷ ls)) freshLink)
   unfolding foundOf firstOf numbered
   finds-later l ls r t =
       ap (λ (x : ℕ). eqb d (foundOf p d x ls)) (pick-false _ _ _ (serves-not p d l t))
@@ -97,7 +101,8 @@ module _ (last p d : ℕ) (z : d ≡ 0 → ⊥) where
       test (same (l .number) d) (finds-here l ls r) (finds-later l ls (finds ls (l .number) r))
 
 -- a party is good where what is found for it is what it serves
-pub party-found : (m : Monitor) (p : ℕ) (q : Party) → linksGood (m .lastlink) 0 (live m) ≡ true → partyGood m p q ≡ choicesGood q && eqb (q .served) (foundOf p (q .served) 0 (live m))
+pub party-found : (m : Monitor) (p : ℕ) (q : Party) → linksGood (m .lastlink) 0 (live m) ≡ true
+    → partyGood m p q ≡ choicesGood q && eqb (q .served) (foundOf p (q .served) 0 (live m))
 unfolding partyGood linkOf
 party-found m p q g = test (eqb (q .served) 0) none some
   where
@@ -115,12 +120,14 @@ pub found-over : (p d f : ℕ) (s : List Link) → s ≡ [] → foundOf p d f s 
 unfolding foundOf
 found-over p d f s k = ap (foundOf p d f) k
 
-pub found-next : (p d f h : ℕ) (s : List Link) (l : Link) (r : List Link) → s ≡ l ∷ r → pick (servedBy p d l) (l .number) f ≡ h → foundOf p d f s ≡ foundOf p d h r
+pub found-next : (p d f h : ℕ) (s : List Link) (l : Link) (r : List Link) → s ≡ l ∷ r → pick (servedBy p d l) (l .number) f ≡ h
+    → foundOf p d f s ≡ foundOf p d h r
 unfolding foundOf
 found-next p d f h s l r k e = ap (foundOf p d f) k ∙ ap (λ (x : ℕ). foundOf p d x r) e
 
 module _ (found : List ℕ) (d : ℕ → ℕ) (l : Link) (p : ℕ) where
-  pub found-put : length found ≡ 16 → l .server < 16 → isWorking l && eqb (l .number) (d (l .server)) ≡ true → pick (servedBy p (d p) l) (l .number) (getD found p 0) ≡ getD (set found (l .server) (l .number)) p 0
+  pub found-put : length found ≡ 16 → l .server < 16 → isWorking l && eqb (l .number) (d (l .server)) ≡ true
+      → pick (servedBy p (d p) l) (l .number) (getD found p 0) ≡ getD (set found (l .server) (l .number)) p 0
   found-put n h t =
       test (same (l .server) p)
       (λ s.

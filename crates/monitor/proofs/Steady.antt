@@ -14,14 +14,15 @@ use Rattle.rules.specs.Step.{isKind, advanced, ruleOf, answeredTo, callOf}
 use Rattle.rules.proofs.Logic.{pick-true}
 use Rattle.rules.proofs.Kept.{call-sound-kept}
 use Rattle.monitor.specs.View.{view}
-use Rattle.monitor.proofs.Laws.{links-long, parties-long, sound-room}
+use Rattle.monitor.proofs.Laws.{view-shape, sound-room}
 
 module _ (xs : List ℕ) (c : Call) where
   pub call-sound : sound (view xs) ≡ true → sound (callOf (view xs) c .monitor) ≡ true
-  call-sound h = call-sound-kept (view xs) (record { shape = record { parties16 = parties-long 16 0 xs; links32 = links-long 32 0 xs }; isSound = h }) c .isSound
+  call-sound h = call-sound-kept (view xs) (record { shape = view-shape xs; isSound = h }) c .isSound
 
   -- the rule's part of a call past question 21: r is what it gives on the record n, whose clock is set
-  module _ (k : isKind (c .kind) ≡ true) (p : c .party ≤ 15) (n : Monitor) (e : n ≡ advanced (view xs) (c .clock)) (r : Ruled) (f : r ≡ ruleOf n (c .party) (c .kind) (c .a) (c .b) (c .c)) where
+  module _ (k : isKind (c .kind) ≡ true) (p : c .party ≤ 15) (n : Monitor) (e : n ≡ advanced (view xs) (c .clock))
+      (r : Ruled) (f : r ≡ ruleOf n (c .party) (c .kind) (c .a) (c .b) (c .c)) where
     pub told-call : answeredTo r (c .party) ≡ callOf (view xs) c
     unfolding callOf
     told-call =

@@ -34,12 +34,14 @@ blank-none xs from =
     let e : from - from ≡ 0 = omega arith in
     ap (withLinks (view xs)) (paste-zero (view xs .links) from (drop from blanks) ∙ ap (paste (view xs .links) from (drop from blanks)) (sym e))
 
-pub blank-more : (m : Monitor) (from i : ℕ) (x : Link) → length (m .links) ≡ 32 → from ≤ i → i < 32 → x ≡ freshLink → replaced (blanked m from i) i x ≡ blanked m from (i + 1)
+pub blank-more : (m : Monitor) (from i : ℕ) (x : Link) → length (m .links) ≡ 32 → from ≤ i → i < 32 → x ≡ freshLink
+    → replaced (blanked m from i) i x ≡ blanked m from (i + 1)
 blank-more m from i x n h k e =
     let b : List Link = drop from blanks in
     let u : from + (i - from) ≡ i = omega arith in
     let v : suc (i - from) ≡ i + 1 - from = omega arith in
-    let w : getD b (i - from) freshLink ≡ x = getD-drop from blanks (i - from) freshLink ∙ ap (λ (j : ℕ). getD blanks j freshLink) u ∙ blank-at i freshLink k ∙ sym e in
+    let blank = ap (λ (j : ℕ). getD blanks j freshLink) u ∙ blank-at i freshLink k in
+    let w : getD b (i - from) freshLink ≡ x = getD-drop from blanks (i - from) freshLink ∙ blank ∙ sym e in
     let r = length-drop from blanks in
     ap (withLinks m)
     (ap (λ (j : ℕ). set (paste (m .links) from b (i - from)) j x) (sym u)
@@ -56,13 +58,15 @@ room-left ls j n h e =
     ∙ append-assoc (take j ls) (take (n - j) (drop j blanks)) (drop (n - j) (drop j blanks))
     ∙ ap (λ (r : List Link). take j ls ++ r) (take-append-drop (n - j) (drop j blanks))
 
-pub keep-first-law : (xs ys zs : List ℕ) (n : ℕ) → n ≤ 32 → view ys ≡ blanked (view xs) n 32 → view zs ≡ withCount (view ys) n → view zs ≡ rebuilt (view xs) (take n (view xs .links))
+pub keep-first-law : (xs ys zs : List ℕ) (n : ℕ) → n ≤ 32 → view ys ≡ blanked (view xs) n 32 → view zs ≡ withCount (view ys) n
+    → view zs ≡ rebuilt (view xs) (take n (view xs .links))
 keep-first-law xs ys zs n h a b =
     let ls : List Link = view xs .links in
     let long = links-long 32 0 xs in
     let c : n ≡ length (take n ls) = sym (length-take-le n ls (omega arith)) in
-    let past : drop 32 ls ≡ drop 32 blanks = drop-of-length-le ls {i = 32} (omega arith) ∙ sym (drop-of-length-le blanks {i = 32} (omega (arith, blanks-long))) in
-    let r : paste ls n (drop n blanks) (32 - n) ≡ take n ls ++ drop (length (take n ls)) blanks = room-left ls n 32 h past ∙ ap (λ (m : ℕ). take n ls ++ drop m blanks) c in
+    let none = drop-of-length-le blanks {i = 32} (omega (arith, blanks-long)) in
+    let past : drop 32 ls ≡ drop 32 blanks = drop-of-length-le ls {i = 32} (omega arith) ∙ sym none in
+    let r = room-left ls n 32 h past ∙ ap (λ (m : ℕ). take n ls ++ drop m blanks) c in
     b ∙ ap (λ (m : Monitor). withCount m n) a ∙ (λ z. withContents (view xs) (view xs .parties) (r z) (c z))
 
 -- ---- the loop that moves, of the numbers ws at first and xs now, at the place i, with j links moved so far; what is no link is h's
@@ -150,23 +154,26 @@ module _ {f : Link → List Link} {ws : List ℕ} {h : Monitor} {xs : List ℕ} 
       ∙ ap (λ (m : Monitor). rebuilt m (collect f (live (view ws)))) (g .other)
 
 -- ---- before the first that passes the test a, f keeps each, where f keeps each that does not pass it
-kept-before : (f : Link → List Link) (a : Link → Bool) → ((x : Link) → a x ≡ false → f x ≡ x ∷ []) → (l : List Link) → collect f (take (firstOf a l) l) ≡ take (firstOf a l) l
+kept-before : (f : Link → List Link) (a : Link → Bool) → ((x : Link) → a x ≡ false → f x ≡ x ∷ []) → (l : List Link)
+    → collect f (take (firstOf a l) l) ≡ take (firstOf a l) l
 unfolding firstOf collect
 kept-before f a keeps [] = refl
 kept-before f a keeps (x ∷ l) = test (a x)
-    (λ e. ap (λ (k : ℕ). collect f (take k (x ∷ l))) (pick-true (a x) 0 (suc (firstOf a l)) e) ∙ ap (λ (k : ℕ). take k (x ∷ l)) (sym (pick-true (a x) 0 (suc (firstOf a l)) e)))
+    (λ e. let zero-th = pick-true (a x) 0 (suc (firstOf a l)) e in
+    ap (λ (k : ℕ). collect f (take k (x ∷ l))) zero-th ∙ ap (λ (k : ℕ). take k (x ∷ l)) (sym zero-th))
     (λ e. ap (λ (k : ℕ). collect f (take k (x ∷ l))) (pick-false (a x) 0 (suc (firstOf a l)) e)
     ∙ ap (λ (r : List Link). r ++ collect f (take (firstOf a l) l)) (keeps x e)
     ∙ ap (λ (r : List Link). x ∷ r) (kept-before f a keeps l)
     ∙ ap (λ (k : ℕ). take k (x ∷ l)) (sym (pick-false (a x) 0 (suc (firstOf a l)) e)))
 
 -- a sweep starts at the first that passes the test
-pub sweep-first : (f : Link → List Link) (a : Link → Bool) → ((x : Link) → a x ≡ false → f x ≡ x ∷ []) → (ws : List ℕ) (at : ℕ)
-    → length ws ≡ words → view ws .count ≤ 32 → at ≡ firstOf a (live (view ws)) → Sweeps f ws (view ws) ws at at
+pub sweep-first : (f : Link → List Link) (a : Link → Bool) → ((x : Link) → a x ≡ false → f x ≡ x ∷ []) → (ws : List ℕ) (at : ℕ) → length ws ≡ words
+    → view ws .count ≤ 32 → at ≡ firstOf a (live (view ws)) → Sweeps f ws (view ws) ws at at
 sweep-first f a keeps ws at n h e =
     let l : List Link = live (view ws) in
     let long = links-long 32 0 ws in
     let k = first-within a l in
     let c : length l ≡ view ws .count = length-take-le (view ws .count) (view ws .links) (omega arith) in
     let t : take at l ≡ take at (view ws .links) = take-take at (view ws .count) (view ws .links) (omega arith) in
-    sweep-start f ws at n h (omega arith) (ap (collect f) (sym t) ∙ ap (λ (i : ℕ). collect f (take i l)) e ∙ kept-before f a keeps l ∙ ap (λ (i : ℕ). take i l) (sym e) ∙ t)
+    let kept = ap (λ (i : ℕ). collect f (take i l)) e ∙ kept-before f a keeps l ∙ ap (λ (i : ℕ). take i l) (sym e) in
+    sweep-start f ws at n h (omega arith) (ap (collect f) (sym t) ∙ kept ∙ t)

@@ -20,7 +20,8 @@ use Rattle.rules.specs.Run.{callAt, placesOf, ranOf, answersOf, callsIn, listed
 use Rattle.rules.proofs.Logic.{pick-true}
 
 -- one call more: the step at the front, and the rest
-answers-more : (k : ℕ) (m : Monitor) (cs : List ℕ) (s : Stepped) → s ≡ callOf m (callAt cs) → answersOf (suc k) m cs ≡ placesOf (s .answer) ++ answersOf k (s .monitor) (drop 6 cs)
+answers-more : (k : ℕ) (m : Monitor) (cs : List ℕ) (s : Stepped) → s ≡ callOf m (callAt cs)
+    → answersOf (suc k) m cs ≡ placesOf (s .answer) ++ answersOf k (s .monitor) (drop 6 cs)
 unfolding answersOf
 answers-more k m cs s e = ap (λ (t : Stepped). placesOf (t .answer) ++ answersOf k (t .monitor) (drop 6 cs)) (sym e)
 
@@ -37,7 +38,9 @@ unfolding ranOf
 ran-none k m cs e = rw e
 
 -- the call at place j of the list is the one at the front of what is left
-pub at-front : (cs : List ℕ) (j : ℕ) → _≡_ {A = Call} (record { clock = getD cs j 0; party = getD cs (j + 1) 0; kind = getD cs (j + 2) 0; a = getD cs (j + 3) 0; b = getD cs (j + 4) 0; c = getD cs (j + 5) 0 }) (callAt (drop j cs))
+pub at-front : (cs : List ℕ) (j : ℕ)
+    → let w : ℕ → ℕ = λ k. getD cs (j + k) 0 in
+    _≡_ {A = Call} (record { clock = getD cs j 0; party = w 1; kind = w 2; a = w 3; b = w 4; c = w 5 }) (callAt (drop j cs))
 unfolding callAt
 at-front cs j = simp (getD-drop, add-zero)
 
@@ -70,14 +73,16 @@ module _ (n i : ℕ) (h : i < n) (calls : List ℕ) (cur m₀ : Monitor) (s : St
 
     pub turn-length : length out′ ≡ length out
     turn-length =
-        let a : length out′ ≡ length (take (i * 6) out ++ placesOf (s .answer)) + length (drop (i * 6 + 6) out) = ap length w ∙ length-append (take (i * 6) out ++ placesOf (s .answer)) (drop (i * 6 + 6) out) in
+        let a = ap length w ∙ length-append (take (i * 6) out ++ placesOf (s .answer)) (drop (i * 6 + 6) out) in
         let b : length (drop (i * 6 + 6) out) ≡ length out - (i * 6 + 6) = length-drop (i * 6 + 6) out in
         let d : length (take (i * 6) out ++ placesOf (s .answer)) ≡ (i + 1) * 6 = head-length in
         omega arith
 
-    pub turn-answers : take (i * 6) out ++ answersOf (n - i) cur (drop (i * 6) calls) ≡ answersOf n m₀ calls → take ((i + 1) * 6) out′ ++ answersOf (n - (i + 1)) (s .monitor) (drop ((i + 1) * 6) calls) ≡ answersOf n m₀ calls
+    pub turn-answers : take (i * 6) out ++ answersOf (n - i) cur (drop (i * 6) calls) ≡ answersOf n m₀ calls
+        → take ((i + 1) * 6) out′ ++ answersOf (n - (i + 1)) (s .monitor) (drop ((i + 1) * 6) calls) ≡ answersOf n m₀ calls
     turn-answers v =
-        ap (λ (r : List ℤ). r ++ answersOf (n - (i + 1)) (s .monitor) (drop ((i + 1) * 6) calls)) (ap (take ((i + 1) * 6)) w ∙ take-at (take (i * 6) out ++ placesOf (s .answer)) (drop (i * 6 + 6) out) ((i + 1) * 6) head-length)
+        let done = take-at (take (i * 6) out ++ placesOf (s .answer)) (drop (i * 6 + 6) out) ((i + 1) * 6) head-length in
+        ap (λ (r : List ℤ). r ++ answersOf (n - (i + 1)) (s .monitor) (drop ((i + 1) * 6) calls)) (ap (take ((i + 1) * 6)) w ∙ done)
         ∙ append-assoc (take (i * 6) out) (placesOf (s .answer)) (answersOf (n - (i + 1)) (s .monitor) (drop ((i + 1) * 6) calls))
         ∙ ap (λ (r : List ℤ). take (i * 6) out ++ r)
         (ap (λ (cs : List ℕ). placesOf (s .answer) ++ answersOf (n - (i + 1)) (s .monitor) cs) (sym rest)
@@ -94,7 +99,8 @@ module _ (n i : ℕ) (h : i < n) (calls : List ℕ) (cur m₀ : Monitor) (s : St
 
 -- a list that is neither cut short nor short of room, on a sound record
 pub list-ran : (m : Monitor) (cs : List ℕ) (out : List ℤ) → length cs % 6 ≡ 0 → length cs ≤ length out → sound m ≡ true
-    → (m′ : Monitor) (out′ : List ℤ) → m′ ≡ ranOf (callsIn cs) m cs → out′ ≡ answersOf (callsIn cs) m cs ++ drop (callsIn cs * 6) out → listed listRun m′ out′ ≡ listOf m cs out
+    → (m′ : Monitor) (out′ : List ℤ) → m′ ≡ ranOf (callsIn cs) m cs → out′ ≡ answersOf (callsIn cs) m cs ++ drop (callsIn cs * 6) out
+    → listed listRun m′ out′ ≡ listOf m cs out
 unfolding listOf
 list-ran m cs out six room fine m′ out′ e f =
     (λ i. listed listRun (e i) (f i)) ∙ sym (pick-true _ _ _ (eq-eqb _ _ six) ∙ pick-true _ _ _ (le-leb _ _ room) ∙ pick-true _ _ _ fine)

@@ -9,8 +9,8 @@ pub use native.Mathlib.Omega.{arith}
 pub use borrow.Author.Needs.{needs}
 pub use borrow.Author.Tests.{eq-eqb, ne-eqb, lt-ltb, le-ltb, le-leb, lt-leb, not-true, not-false}
 pub use lib.Dec.{eqb, ltb, leb}
-pub use lib.ListN.{length, take, drop, getD, set, drop-of-length-le}
-pub use lib.IntN.{ℤ, pos, negsuc}
+pub use lib.ListN.{length, take, drop, getD, set}
+pub use lib.IntN.{ℤ, pos}
 pub use mir.Syntax.{w64}
 pub use mir.Val.{toZ, ofZ}
 pub use mir.Facts.{toZ-pos}
@@ -23,30 +23,38 @@ unfoldable pub use Rattle.rules.specs.Choice.{pick, same}
 unfoldable pub use Rattle.rules.specs.Lists.{firstOf, anyOf, collect}
 pub use Rattle.rules.specs.Codes.{txOk, unknownKind, noSuchEnd, noRoomLeft, inTransaction, timedOut, noReplyYet}
 unfoldable pub use Rattle.rules.specs.Codes.{noBegin}
-pub use Rattle.rules.specs.Record.{freshParty, freshLink, isOpened, isRollbackOnly, isRequest, isAttached, isWaiting, isReturned, isServerFree, party, live, withSettings, withUnread, withContents, withTimeout, owningNone, rollbackOnly, closed, disconnectedLink, returned, withoutOldest, withClock, withLastLink, withLastTx, withParties, withParty, withLinks, withCount, replaced, added, ruled, valued, ask}
-unfoldable pub use Rattle.rules.specs.Record.{blanks, numbered, owns, ownEnd, linkOf, changed, goneOf, removed}
+pub use Rattle.rules.specs.Record.{freshParty, freshLink, isOpened, isRollbackOnly, isRequest, isAttached, isWaiting, isReturned}
+pub use Rattle.rules.specs.Record.{isServerFree, party, live, withSettings, withUnread, withContents, withTimeout, owningNone, rollbackOnly}
+pub use Rattle.rules.specs.Record.{returned, withoutOldest, withClock, withLastLink, withLastTx, withParties}
+pub use Rattle.rules.specs.Record.{withParty, withCount, replaced, added, ruled, valued, ask}
+unfoldable pub use Rattle.rules.specs.Record.{numbered, owns, ownEnd, linkOf, changed, goneOf, removed}
 pub use Rattle.rules.specs.Transaction.{late, rollbackOnlyTx}
-unfoldable pub use Rattle.rules.specs.Transaction.{servedTx, txOf, ended, expired, isOwner, rollbackOnlyIn, deadlineOf, beginTx, orphaned, endOf, endTx, isOpenOf, canCommit}
+unfoldable pub use Rattle.rules.specs.Transaction.{servedTx, txOf, ended, expired, isOwner, rollbackOnlyIn, deadlineOf}
+unfoldable pub use Rattle.rules.specs.Transaction.{beginTx, orphaned, endOf, endTx, isOpenOf, canCommit}
 unfoldable pub use Rattle.rules.specs.States.{stateOf, nextOf, inState, entered}
 unfoldable pub use Rattle.rules.specs.Tx.{openOf, closeOf, beginOf, goOn, commitCode, commitOf, rollbackOf, infoOf, commitReturnOf, controlOf, timeoutOf}
 pub use Rattle.rules.specs.Services.{isService}
 unfoldable pub use Rattle.rules.specs.Services.{inSet, offers, withService, offersNow, advertiseOf, unadvertiseOf}
 pub use Rattle.rules.specs.Requests.{connectFlags}
-unfoldable pub use Rattle.rules.specs.Requests.{linkTx, askLink, requestOf, connectOf, isIdle, fits, dispatchEvent, dispatched, dispatchOf, requestEnd, outcomeCode, fetched, fetchOf, cancelled, cancelOf}
-unfoldable pub use Rattle.rules.specs.Conversations.{originatorEnd, serverEnd, anyEnd, hearsDisconnect, hearsReturn, endSide, isSender, tellsDisconnect, tellsReturn, sendOn, sendOf, carriesGrant, received, receiveOn, receiveOf, disconnectedAt, disconnectOf}
-unfoldable pub use Rattle.rules.specs.Return.{plainOutcome, outcomeOf, unreadAfter, closeEnd, rollbackOnlyBy, closeOwn, endOwn, rollbackOnlyServed, servesNone, endingOf, handBack, leave, returnWith, returnOf, diedOut, terminateOf}
+unfoldable pub use Rattle.rules.specs.Requests.{linkTx, askLink, requestOf, connectOf, isIdle, fits, dispatchEvent, dispatched}
+unfoldable pub use Rattle.rules.specs.Requests.{dispatchOf, requestEnd, outcomeCode, fetched, fetchOf, cancelled, cancelOf}
+unfoldable pub use Rattle.rules.specs.Conversations.{originatorEnd, serverEnd, anyEnd, hearsDisconnect, hearsReturn, endSide}
+unfoldable pub use Rattle.rules.specs.Conversations.{isSender, tellsDisconnect, tellsReturn, sendOn, sendOf, carriesGrant, received}
+unfoldable pub use Rattle.rules.specs.Conversations.{receiveOn, receiveOf, disconnectedAt, disconnectOf}
+unfoldable pub use Rattle.rules.specs.Return.{plainOutcome, outcomeOf, unreadAfter, closeOwn, endOwn, rollbackOnlyServed}
+unfoldable pub use Rattle.rules.specs.Return.{servesNone, endingOf, handBack, leave, returnWith, returnOf, diedOut, terminateOf}
 pub use Rattle.rules.specs.Sound.{linkGood}
-unfoldable pub use Rattle.rules.specs.Sound.{linksGood, worksFor, partyGood, partiesGood, sound}
-pub use Rattle.rules.specs.Step.{answered}
+unfoldable pub use Rattle.rules.specs.Sound.{linksGood, partyGood, partiesGood, sound}
 unfoldable pub use Rattle.rules.specs.Step.{ruleOf, laterOf, answeredTo, turnedDown, callOf, stepOf}
-pub use Rattle.rules.specs.Run.{listed}
 unfoldable pub use Rattle.rules.specs.Run.{placesOf, ranOf, answersOf, listOf}
 unfoldable pub use Rattle.rules.specs.Equal.{sameParty, sameLink, allSame, sameRecord, equal}
 pub use Rattle.monitor.specs.declared.Told.{Told}
 pub use Rattle.monitor.specs.Words.{words}
-pub use Rattle.monitor.specs.View.{view, linkIn, liveAt, changedAt, ruledBy, toldCode, toldValue, stepped, codeAnswer}
+pub use Rattle.monitor.specs.View.{view, linkIn, liveAt, ruledBy, toldValue, stepped}
 unfoldable pub use Rattle.monitor.specs.View.{linkAt, partyAt, ofTx}
 pub use Rattle.rules.proofs.Logic.{pick-true, pick-false, same-eq, same-ne}
 pub use Rattle.monitor.proofs.Lists.{live-past, any-first}
-pub use Rattle.monitor.proofs.Laws.{links-long, parties-long, link-law, party-law, end-live, live-long, live-in, end-party, live-of, changed-of, there, nowhere, replaced-of, count-kept, sound-room}
-pub use Rattle.monitor.proofs.Search.{LinkSearch, PartySearch, search-links, search-parties, tested, found-first, found-any, passed, none-first, none-any}
+pub use Rattle.monitor.proofs.Laws.{links-long, parties-long, link-law, party-law, end-live, live-long, live-in}
+pub use Rattle.monitor.proofs.Laws.{end-party, live-of, changed-of, there, nowhere, replaced-of, count-kept, sound-room}
+pub use Rattle.monitor.proofs.Search.{LinkSearch, PartySearch, search-links, search-parties, tested}
+pub use Rattle.monitor.proofs.Search.{found-first, found-any, passed, none-first, none-any}

@@ -67,14 +67,22 @@ unfolding partyAt wordsAt wordsFrom
 party-words xs a p h =
     let s = a .small (partyBase p + 3) (omega arith) in
     let d = a .small (partyBase p + 6) (omega arith) in
-    λ z. partyWords (partyAt xs p) (low _ (getD xs (partyBase p + 4) 0) s z) (high _ (getD xs (partyBase p + 4) 0) s z) (low _ (getD xs (partyBase p + 7) 0) d z) (high _ (getD xs (partyBase p + 7) 0) d z)
+    let services = getD xs (partyBase p + 4) 0 in
+    let deadline = getD xs (partyBase p + 7) 0 in
+    λ z. partyWords (partyAt xs p) (low _ services s z) (high _ services s z) (low _ deadline d z) (high _ deadline d z)
 
 module _ (xs ys : List ℕ) (a : WordsOf xs) (b : WordsOf ys) (e : view xs ≡ view ys) where
   same-link : (i : ℕ) → i < 32 → linkAt xs i ≡ linkAt ys i
-  same-link i h = sym (links-at 32 0 xs i freshLink h ∙ ap (linkAt xs) (omega arith)) ∙ ap (λ (m : Monitor). getD (m .links) i freshLink) e ∙ links-at 32 0 ys i freshLink h ∙ ap (linkAt ys) (omega arith)
+  same-link i h =
+      sym (links-at 32 0 xs i freshLink h ∙ ap (linkAt xs) (omega arith))
+      ∙ ap (λ (m : Monitor). getD (m .links) i freshLink) e
+      ∙ links-at 32 0 ys i freshLink h ∙ ap (linkAt ys) (omega arith)
 
   same-party : (p : ℕ) → p < 16 → partyAt xs p ≡ partyAt ys p
-  same-party p h = sym (parties-at 16 0 xs p freshParty h ∙ ap (partyAt xs) (omega arith)) ∙ ap (λ (m : Monitor). getD (m .parties) p freshParty) e ∙ parties-at 16 0 ys p freshParty h ∙ ap (partyAt ys) (omega arith)
+  same-party p h =
+      sym (parties-at 16 0 xs p freshParty h ∙ ap (partyAt xs) (omega arith))
+      ∙ ap (λ (m : Monitor). getD (m .parties) p freshParty) e
+      ∙ parties-at 16 0 ys p freshParty h ∙ ap (partyAt ys) (omega arith)
 
   in-head : (k : ℕ) → k < headSize → getD xs k 0 ≡ getD ys k 0
   in-head k h =

@@ -1,6 +1,6 @@
 // Kinds 17 to 19: send, receive and disconnect on a conversation.
 ghost use mathlib.Core.Path.{_≡_};
-ghost use Prim.Native.Nat.{_+_, _<_, _≤_};
+ghost use Prim.Native.Nat.{_<_, _≤_};
 ghost use lib.ListN.{length};
 ghost use Rattle.rules.specs.Record.{placeOf, notified, withSent, withoutOldest};
 ghost use Rattle.rules.specs.Conversations.{originatorEnd, serverEnd, anyEnd, hearsDisconnect, hearsReturn, endSide, isSender, tellsDisconnect, tellsReturn, sendOn, sendOf, carriesGrant, received, receiveOn, receiveOf, disconnectedAt, disconnectOf};

@@ -1,7 +1,7 @@
 // When a record is sound: one pass over the links, and one over the parties.
 ghost use mathlib.Core.Path.{_≡_};
 ghost use mathlib.Core.Bool.{true};
-ghost use Prim.Native.Nat.{_<_, _≤_};
+ghost use Prim.Native.Nat.{_≤_};
 ghost use lib.ListN.{replicate};
 ghost use Rattle.rules.specs.Record.{live};
 ghost use Rattle.rules.specs.Sound.{linkGood, linksGood, choicesGood, partiesGood, sound};

@@ -13,9 +13,12 @@ put-link-requires c κs = search needs
 returns : tie.Need-returns
 unfolding disconnectedAt
 returns c =
-    let s = c .before .before .before .before .before in
-    let n = changes (view (s .args .s .now)) (s .args .a) (c .put-link .ensures .0) (s .pre .2) (s .pre .3) (c .before .before .disconnect-link .ensures) in
-    (n ∙ sym (pick-true _ _ _ (eq-eqb _ _ (c .before .before .before .if1 .taken))), c .put-link .ensures .1)
+    let disconnected = c .before .before in
+    let working = disconnected .before in
+    let start = working .before .before in
+    let k = disconnected .disconnect-link .ensures in
+    let n = changes (view (start .args .s .now)) (start .args .a) (c .put-link .ensures .0) (start .pre .2) (start .pre .3) k in
+    (n ∙ sym (pick-true _ _ _ (eq-eqb _ _ (working .if1 .taken))), c .put-link .ensures .1)
 
 remove-at-requires : tie.Need-remove-at-requires
 remove-at-requires c κs = search needs

@@ -23,11 +23,15 @@ put-link-requires c κs = search needs
 returns : tie.Need-returns
 unfolding received
 returns c =
-    let s = c .before .before .before .before .before .before .before in
-    let a = s .args in
-    let k = c .before .before .without-oldest .ensures ∙ ap (λ (e : ℕ). withoutOldest (a .l) e 0) (c .before .before .before .end-side .ensures) in
-    let n = changes (view (a .s .now)) (a .a) (c .put-link .ensures .0) (s .pre .2) (s .pre .3) k in
-    let r = sym (pick-true _ _ _ (sym (c .before .before .before .before .before .carries-grant .ensures) ∙ c .before .before .before .before .if1 .taken)) in
+    let shifted = c .before .before in
+    let asked-side = shifted .before in
+    let granted = asked-side .before in
+    let asked-grant = granted .before in
+    let start = asked-grant .before .before in
+    let a = start .args in
+    let k = shifted .without-oldest .ensures ∙ ap (λ (e : ℕ). withoutOldest (a .l) e 0) (asked-side .end-side .ensures) in
+    let n = changes (view (a .s .now)) (a .a) (c .put-link .ensures .0) (start .pre .2) (start .pre .3) k in
+    let r = sym (pick-true _ _ _ (sym (asked-grant .carries-grant .ensures) ∙ granted .if1 .taken)) in
     ((λ i. record { monitor = n i; code = tpeEvent; value = 0; event = tpevSendOnly; token = getD (a .l .unread) 0 0; service = 0 }) ∙ r, c .put-link .ensures .1)
 
 without-oldest-requires-2 : tie.Need-without-oldest-requires-2
@@ -39,10 +43,13 @@ put-link-requires-2 c κs = search needs
 returns-2 : tie.Need-returns-2
 unfolding received
 returns-2 c =
-    let s = c .before .before .before .before .before .before in
-    let a = s .args in
-    let n = changes (view (a .s .now)) (a .a) (c .put-link2 .ensures .0) (s .pre .2) (s .pre .3) (c .before .before .without-oldest2 .ensures) in
-    let r = sym (pick-false _ _ _ (sym (c .before .before .before .before .carries-grant .ensures) ∙ c .before .before .before .if1 .left)) in
+    let shifted = c .before .before in
+    let plain = shifted .before in
+    let asked-grant = plain .before in
+    let start = asked-grant .before .before in
+    let a = start .args in
+    let n = changes (view (a .s .now)) (a .a) (c .put-link2 .ensures .0) (start .pre .2) (start .pre .3) (shifted .without-oldest2 .ensures) in
+    let r = sym (pick-false _ _ _ (sym (asked-grant .carries-grant .ensures) ∙ plain .if1 .left)) in
     ((λ i. record { monitor = n i; code = tpAccepted; value = 0; event = 0; token = getD (a .l .unread) 0 0; service = 0 }) ∙ r, c .put-link2 .ensures .1)
 
 pub receive-spec : {M : Type 1} → statement M

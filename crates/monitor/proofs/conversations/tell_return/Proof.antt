@@ -11,7 +11,8 @@ returns : tie.Need-returns
 unfolding tellsReturn
 returns c =
     let l = c .before .before .args .l in
-    (λ i. record { monitor = c .remove-at .ensures .0 i; code = tpeEvent; value = 0; event = l .outcome; token = l .ending; service = 0 }, c .remove-at .ensures .1)
+    let n = c .remove-at .ensures in
+    (λ i. record { monitor = n .0 i; code = tpeEvent; value = 0; event = l .outcome; token = l .ending; service = 0 }, n .1)
 
 pub tell-return-spec : {M : Type 1} → statement M
 tell-return-spec = tie.close (tie.spec remove-at-requires returns)

@@ -32,5 +32,8 @@ unfolding code.routine tablesOf
 monitor-file-spec 𝓤 H 𝓜 𝓖 𝓡 =
     entered 𝓤 H (tripleOf 𝓤 H (𝓖 .A) entry.signature (entry.spec 𝓤 H (𝓖 .A) (𝓜 .mem) (𝓡 .run)))
     (tables 𝓤 H 𝓜 𝓡 code.env .C) (tables 𝓤 H 𝓜 𝓡 code.env .Λ) #own code.function (code.unfolded 𝓤 H 𝓜 𝓡)
-    (lending-meets u8 N.the-row Told #callee 𝓤 H (𝓖 .A) (givenOf 𝓤 H 𝓜 𝓖) (λ r v is. lawful N.the-type N′.the-laws 𝓤 H (𝓖 .A) (givenOf 𝓤 H 𝓜 𝓖) .typed r (v ∷ []) is .0) (tablesOf 𝓤 H 𝓜 (tables 𝓤 H 𝓜 𝓡 code.env))
-    (cited 𝓤 H (tripleOf 𝓤 H (𝓖 .A) callee.signature (callee.spec 𝓤 H (𝓖 .A) (𝓜 .mem) (𝓡 .run))) 𝓜 𝓡 code.env #callee callee-def.routine code.calls-monitor·file·file-on (callee-thm.met 𝓤 H 𝓜 𝓖 𝓡)))
+    (lending-meets u8 N.the-row Told #callee 𝓤 H (𝓖 .A) (givenOf 𝓤 H 𝓜 𝓖)
+    (λ r v is. lawful N.the-type N′.the-laws 𝓤 H (𝓖 .A) (givenOf 𝓤 H 𝓜 𝓖) .typed r (v ∷ []) is .0)
+    (tablesOf 𝓤 H 𝓜 (tables 𝓤 H 𝓜 𝓡 code.env))
+    (cited 𝓤 H (tripleOf 𝓤 H (𝓖 .A) callee.signature (callee.spec 𝓤 H (𝓖 .A) (𝓜 .mem) (𝓡 .run)))
+    𝓜 𝓡 code.env #callee callee-def.routine code.calls-monitor·file·file-on (callee-thm.met 𝓤 H 𝓜 𝓖 𝓡)))

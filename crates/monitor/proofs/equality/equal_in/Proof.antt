@@ -25,8 +25,11 @@ same-record-requires c κs = sound-room _ (sym (c .before .before .before .is-so
 returns-3 : tie.Need-returns-3
 unfolding equal
 returns-3 c =
-    let e = sym (c .before .before .before .before .is-sound-in .ensures) ∙ not-false _ (c .before .before .before .if1 .left) in
-    let f = sym (c .before .before .is-sound-in2 .ensures) ∙ not-false _ (c .before .if2 .left) in
+    let asked-second = c .before .before in
+    let first-sound = asked-second .before in
+    let asked-first = first-sound .before in
+    let e = sym (asked-first .is-sound-in .ensures) ∙ not-false _ (first-sound .if1 .left) in
+    let f = sym (asked-second .is-sound-in2 .ensures) ∙ not-false _ (c .before .if2 .left) in
     c .same-record .ensures ∙ sym (pick-true _ _ _ e ∙ pick-true _ _ _ f)
 
 pub equal-in-spec : {M : Type 1} → statement M

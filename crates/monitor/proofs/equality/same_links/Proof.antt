@@ -6,7 +6,10 @@ use Rattle.monitor.proofs.equality.same_links.Statement.{statement}
 use Rattle.monitor.proofs.equality.same_links.Tie as tie
 
 abbrev Inv-loop : tie.InvT-loop
-Inv-loop x y len i₀ i = (len ≡ view x .count) × (i ≤ len) × (allSame sameLink (live (view x)) (live (view y)) ≡ allSame sameLink (drop i (live (view x))) (drop i (live (view y))))
+Inv-loop x y len i₀ i =
+    let xs = live (view x) in
+    let ys = live (view y) in
+    (len ≡ view x .count) × (i ≤ len) × (allSame sameLink xs ys ≡ allSame sameLink (drop i xs) (drop i ys))
 
 abbrev μ-loop : tie.MeasureT-loop
 μ-loop x y len i₀ i = len - i
@@ -34,21 +37,33 @@ loop-less c = search needs
 
 loop-again : tie.Need-loop-again Inv-loop μ-loop
 loop-again c =
-    let a = c .before .before .before .before .before .before .before in
-    let v = c .before .before .before .before .before .loop in
+    let at-other-link = c .before .before in
+    let at-link = at-other-link .before in
+    let turn = at-link .before .before in
+    let start = turn .before .before in
+    let v = turn .loop in
     let n = v .inv .0 in
-    let l = c .before .before .before .link-at in
-    let k = c .before .before .link-at2 in
-    (n, omega arith, v .inv .2 ∙ links-alike (a .args .x .now) (a .args .y .now) (v .i) (a .pre .0) (a .pre .1) (omega arith) (l .result) (k .result) (l .ensures) (k .ensures) (sym (c .before .same-link .ensures) ∙ c .if1 .taken))
+    let l = at-link .link-at in
+    let k = at-other-link .link-at2 in
+    let a = start .args in
+    let same = sym (c .before .same-link .ensures) ∙ c .if1 .taken in
+    let r = links-alike (a .x .now) (a .y .now) (v .i) (start .pre .0) (start .pre .1) (omega arith) _ _ (l .ensures) (k .ensures) same in
+    (n, omega arith, v .inv .2 ∙ r)
 
 returns : tie.Need-returns Inv-loop μ-loop
 returns c =
-    let a = c .before .before .before .before .before .before .before in
-    let v = c .before .before .before .before .before .loop in
+    let at-other-link = c .before .before in
+    let at-link = at-other-link .before in
+    let turn = at-link .before .before in
+    let start = turn .before .before in
+    let v = turn .loop in
     let n = v .inv .0 in
-    let l = c .before .before .before .link-at in
-    let k = c .before .before .link-at2 in
-    sym (v .inv .2 ∙ links-unlike (a .args .x .now) (a .args .y .now) (v .i) (a .pre .0) (a .pre .1) (omega arith) (l .result) (k .result) (l .ensures) (k .ensures) (sym (c .before .same-link .ensures) ∙ c .if1 .left))
+    let l = at-link .link-at in
+    let k = at-other-link .link-at2 in
+    let a = start .args in
+    let same = sym (c .before .same-link .ensures) ∙ c .if1 .left in
+    let r = links-unlike (a .x .now) (a .y .now) (v .i) (start .pre .0) (start .pre .1) (omega arith) _ _ (l .ensures) (k .ensures) same in
+    sym (v .inv .2 ∙ r)
 
 returns-2 : tie.Need-returns-2 Inv-loop μ-loop
 returns-2 c =
@@ -56,7 +71,9 @@ returns-2 c =
     let v = c .before .loop in
     let n = v .inv .0 in
     let h = a .pre .1 in
-    sym (v .inv .2 ∙ alike-done sameLink _ _ (end-live (a .args .x .now) (v .i) (omega arith) (omega arith)) (end-live (a .args .y .now) (v .i) (omega arith) (omega arith)))
+    let x-done = end-live (a .args .x .now) (v .i) (omega arith) (omega arith) in
+    let y-done = end-live (a .args .y .now) (v .i) (omega arith) (omega arith) in
+    sym (v .inv .2 ∙ alike-done sameLink _ _ x-done y-done)
 
 pub same-links-spec : {M : Type 1} → statement M
 same-links-spec =

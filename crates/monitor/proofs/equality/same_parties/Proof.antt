@@ -31,19 +31,31 @@ loop-less c = search needs
 
 loop-again : tie.Need-loop-again Inv-loop μ-loop
 loop-again c =
-    let a = c .before .before .before .before .before .before .args in
-    let v = c .before .before .before .before .before .loop in
-    let q = c .before .before .before .party-at in
-    let s = c .before .before .party-at2 in
-    (omega arith, v .inv .1 ∙ parties-alike (a .x .now) (a .y .now) (v .i) (omega arith) (q .result) (s .result) (q .ensures) (s .ensures) (sym (c .before .same-party .ensures) ∙ c .if1 .taken))
+    let at-other-party = c .before .before in
+    let at-party = at-other-party .before in
+    let turn = at-party .before .before in
+    let start = turn .before in
+    let a = start .args in
+    let v = turn .loop in
+    let q = at-party .party-at in
+    let s = at-other-party .party-at2 in
+    let same = sym (c .before .same-party .ensures) ∙ c .if1 .taken in
+    let r = parties-alike (a .x .now) (a .y .now) (v .i) (omega arith) _ _ (q .ensures) (s .ensures) same in
+    (omega arith, v .inv .1 ∙ r)
 
 returns : tie.Need-returns Inv-loop μ-loop
 returns c =
-    let a = c .before .before .before .before .before .before .args in
-    let v = c .before .before .before .before .before .loop in
-    let q = c .before .before .before .party-at in
-    let s = c .before .before .party-at2 in
-    sym (v .inv .1 ∙ parties-unlike (a .x .now) (a .y .now) (v .i) (omega arith) (q .result) (s .result) (q .ensures) (s .ensures) (sym (c .before .same-party .ensures) ∙ c .if1 .left))
+    let at-other-party = c .before .before in
+    let at-party = at-other-party .before in
+    let turn = at-party .before .before in
+    let start = turn .before in
+    let a = start .args in
+    let v = turn .loop in
+    let q = at-party .party-at in
+    let s = at-other-party .party-at2 in
+    let same = sym (c .before .same-party .ensures) ∙ c .if1 .left in
+    let r = parties-unlike (a .x .now) (a .y .now) (v .i) (omega arith) _ _ (q .ensures) (s .ensures) same in
+    sym (v .inv .1 ∙ r)
 
 returns-2 : tie.Need-returns-2 Inv-loop μ-loop
 returns-2 c =

@@ -28,8 +28,10 @@ enum-known-found c = search needs
 add-n : tie.Need-add-n Inv-loop μ-loop
 unfolding found
 add-n c =
-    let e = (sym (c .before .before .before .read-call .ensures) ∙ ap found (c .before .found .given .1)) in
-    omega (arith, call-after _ _ _ _ e, call-within _ _ _ _ e, c .before .before .before .before .loop .inv .few)
+    let read = c .before .before .before in
+    let turn = read .before in
+    let e = (sym (read .read-call .ensures) ∙ ap found (c .before .found .given .1)) in
+    omega (arith, call-after _ _ _ _ e, call-within _ _ _ _ e, turn .loop .inv .few)
 
 loop-less : tie.Need-loop-less Inv-loop μ-loop
 unfolding found
@@ -40,7 +42,9 @@ loop-less c =
 loop-again : tie.Need-loop-again Inv-loop μ-loop
 unfolding found
 loop-again c =
-    counts-one (c .before .before .before .before .loop .inv) _ _ (sym (c .before .before .before .read-call .ensures) ∙ ap found (c .before .found .given .1))
+    let read = c .before .before .before in
+    let turn = read .before in
+    counts-one (turn .loop .inv) _ _ (sym (read .read-call .ensures) ∙ ap found (c .before .found .given .1))
 
 enum-told : tie.Need-enum-told Inv-loop μ-loop
 enum-told c = search needs

@@ -18,8 +18,11 @@ same-length c = search needs
 
 returns-2 : tie.Need-returns-2
 returns-2 c =
-    let r = c .before .piece-on .ensures in
-    (file-enough _ _ _ _ (c .before .before .before .before .before .count-calls .ensures) (c .before .before .before .before .if1 .left) _ (r .0), r .1)
+    let ran = c .before in
+    let enough = ran .before .before .before in
+    let calls-counted = enough .before in
+    let r = ran .piece-on .ensures in
+    (file-enough _ _ _ _ (calls-counted .count-calls .ensures) (enough .if1 .left) _ (r .0), r .1)
 
 pub file-on-spec : {M : Type 1} → statement M
 file-on-spec =

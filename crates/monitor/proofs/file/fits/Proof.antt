@@ -26,7 +26,10 @@ size-requires : tie.Need-size-requires Inv-loop μ-loop
 size-requires c κs = search needs
 
 returns : tie.Need-returns Inv-loop μ-loop
-returns c = measures-over (c .before .before .before .before .loop .inv) (c .before .before .before .loop-test .taken) _ (c .before .size .ensures) (c .if1 .taken)
+returns c =
+    let within = c .before .before .before in
+    let turn = within .before in
+    measures-over (turn .loop .inv) (within .loop-test .taken) _ (c .before .size .ensures) (c .if1 .taken)
 
 add-i : tie.Need-add-i Inv-loop μ-loop
 add-i c = search needs
@@ -35,7 +38,10 @@ loop-less : tie.Need-loop-less Inv-loop μ-loop
 loop-less c = search needs
 
 loop-again : tie.Need-loop-again Inv-loop μ-loop
-loop-again c = measures-one (c .before .before .before .before .loop .inv) (c .before .before .before .loop-test .taken) _ (c .before .size .ensures) (c .if1 .left)
+loop-again c =
+    let within = c .before .before .before in
+    let turn = within .before in
+    measures-one (turn .loop .inv) (within .loop-test .taken) _ (c .before .size .ensures) (c .if1 .left)
 
 returns-2 : tie.Need-returns-2 Inv-loop μ-loop
 returns-2 c = measures-all (c .before .loop .inv) (c .loop-test .left)

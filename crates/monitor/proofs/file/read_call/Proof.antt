@@ -44,8 +44,11 @@ loop-less c = search needs
 loop-again : tie.Need-loop-again Inv-loop μ-loop
 unfolding decoded
 loop-again c =
-    reads-one (c .before .before .before .before .before .loop .inv) _ _ (c .before .before .before .before .loop-test .taken)
-    (sym (c .before .before .before .decode .ensures) ∙ ap decoded (c .before .read .given .1))
+    let read-one = c .before .before .before in
+    let within = read-one .before in
+    let turn = within .before in
+    reads-one (turn .loop .inv) _ _ (within .loop-test .taken)
+    (sym (read-one .decode .ensures) ∙ ap decoded (c .before .read .given .1))
 
 enum-told : tie.Need-enum-told Inv-loop μ-loop
 enum-told c = search needs
@@ -53,11 +56,15 @@ enum-told c = search needs
 returns-2 : tie.Need-returns-2 Inv-loop μ-loop
 unfolding found decoded asCall
 returns-2 c =
+    let read-one = c .before .before in
+    let within = read-one .before in
+    let turn = within .before in
+    let more = turn .before in
     sym
-    (call-some _ _ (c .before .before .before .before .before .if1 .left)
+    (call-some _ _ (more .if1 .left)
     ∙ ap asCall
-    (reads-stop (c .before .before .before .before .loop .inv) 17 (c .before .before .before .loop-test .taken)
-    (sym (c .before .before .decode .ensures) ∙ ap decoded (c .enum-told .given .1))))
+    (reads-stop (turn .loop .inv) 17 (within .loop-test .taken)
+    (sym (read-one .decode .ensures) ∙ ap decoded (c .enum-told .given .1))))
 
 enum-told-2 : tie.Need-enum-told-2 Inv-loop μ-loop
 enum-told-2 c = search needs
@@ -65,11 +72,15 @@ enum-told-2 c = search needs
 returns-3 : tie.Need-returns-3 Inv-loop μ-loop
 unfolding found decoded asCall
 returns-3 c =
+    let read-one = c .before .before in
+    let within = read-one .before in
+    let turn = within .before in
+    let more = turn .before in
     sym
-    (call-some _ _ (c .before .before .before .before .before .if1 .left)
+    (call-some _ _ (more .if1 .left)
     ∙ ap asCall
-    (reads-stop (c .before .before .before .before .loop .inv) 18 (c .before .before .before .loop-test .taken)
-    (sym (c .before .before .decode .ensures) ∙ ap decoded (c .enum-told2 .given .1))))
+    (reads-stop (turn .loop .inv) 18 (within .loop-test .taken)
+    (sym (read-one .decode .ensures) ∙ ap decoded (c .enum-told2 .given .1))))
 
 array-read-t17 : tie.Need-array-read-t17 Inv-loop μ-loop
 array-read-t17 c = search needs

@@ -18,8 +18,10 @@ returns c = (unfinished-answer _ _ _ (c .if1 .taken), unfinished-buffer _ _ _ (c
 returns-2 : tie.Need-returns-2
 unfolding written
 returns-2 c =
-    let a = c .before .before .before .before .args in
-    let h = c .before .if1 .left in
+    let finished = c .before in
+    let start = finished .before .before .before in
+    let a = start .args in
+    let h = finished .if1 .left in
     let k : length (a .buffer .now) < a .place + length (fileBytes (a .calls .now)) = omega (arith, c .if2 .taken) in
     (little-answer (a .buffer .now) (a .place) (a .calls .now) h k, little-buffer (a .buffer .now) (a .place) (a .calls .now) h k)
 
@@ -32,17 +34,26 @@ fits-requires c κs = search needs
 returns-3 : tie.Need-returns-3
 unfolding written
 returns-3 c =
-    let a = c .before .before .before .before .before .before .args in
-    let e = leb-false (length (fileBytes (a .calls .now))) (length (a .buffer .now) - a .place) (sym (c .before .fits2 .ensures) ∙ not-true _ (c .if3 .taken)) in
-    let h = c .before .before .before .if1 .left in
-    let k : length (a .buffer .now) < a .place + length (fileBytes (a .calls .now)) = omega (arith, e, c .before .before .if2 .left) in
+    let inside = c .before .before in
+    let finished = inside .before in
+    let start = finished .before .before .before in
+    let a = start .args in
+    let answer = sym (c .before .fits2 .ensures) ∙ not-true _ (c .if3 .taken) in
+    let e = leb-false (length (fileBytes (a .calls .now))) (length (a .buffer .now) - a .place) answer in
+    let h = finished .if1 .left in
+    let k : length (a .buffer .now) < a .place + length (fileBytes (a .calls .now)) = omega (arith, e, inside .if2 .left) in
     (little-answer (a .buffer .now) (a .place) (a .calls .now) h k, little-buffer (a .buffer .now) (a .place) (a .calls .now) h k)
 
 write-numbers-requires : tie.Need-write-numbers-requires
 write-numbers-requires c κs =
-    let a = c .before .before .before .before .before .before .before .args in
-    let e = leb-true (length (fileBytes (a .calls .now))) (length (a .buffer .now) - a .place) (sym (c .before .before .fits2 .ensures) ∙ not-false _ (c .before .if3 .left)) in
-    omega (arith, e, c .before .before .before .if2 .left)
+    let asked-room = c .before .before in
+    let inside = asked-room .before in
+    let finished = inside .before in
+    let start = finished .before .before .before in
+    let a = start .args in
+    let answer = sym (asked-room .fits2 .ensures) ∙ not-false _ (c .before .if3 .left) in
+    let e = leb-true (length (fileBytes (a .calls .now))) (length (a .buffer .now) - a .place) answer in
+    omega (arith, e, inside .if2 .left)
 
 same-length : tie.Need-same-length
 same-length c = search needs
@@ -50,11 +61,18 @@ same-length c = search needs
 returns-4 : tie.Need-returns-4
 unfolding written
 returns-4 c =
-    let a = c .before .before .before .before .before .before .before .before .before .before .args in
-    let e = leb-true (length (fileBytes (a .calls .now))) (length (a .buffer .now) - a .place) (sym (c .before .before .before .before .before .fits2 .ensures) ∙ not-false _ (c .before .before .before .before .if3 .left)) in
-    let h = c .before .before .before .before .before .before .before .if1 .left in
-    let k : a .place + length (fileBytes (a .calls .now)) ≤ length (a .buffer .now) = omega (arith, e, c .before .before .before .before .before .before .if2 .left) in
-    let r = c .before .before .write-numbers .ensures in (
+    let bytes-in = c .before .before in
+    let enough = bytes-in .before .before in
+    let asked-room = enough .before in
+    let inside = asked-room .before in
+    let finished = inside .before in
+    let start = finished .before .before .before in
+    let a = start .args in
+    let answer = sym (asked-room .fits2 .ensures) ∙ not-false _ (enough .if3 .left) in
+    let e = leb-true (length (fileBytes (a .calls .now))) (length (a .buffer .now) - a .place) answer in
+    let h = finished .if1 .left in
+    let k : a .place + length (fileBytes (a .calls .now)) ≤ length (a .buffer .now) = omega (arith, e, inside .if2 .left) in
+    let r = bytes-in .write-numbers .ensures in (
       ap wrote (r .0) ∙ enough-answer (a .buffer .now) (a .place) (a .calls .now) h k,
       r .1 ∙ enough-buffer (a .buffer .now) (a .place) (a .calls .now) h k,
     )

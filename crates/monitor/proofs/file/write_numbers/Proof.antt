@@ -38,17 +38,34 @@ loop-less c = search needs
 
 loop-again : tie.Need-loop-again Inv-loop μ-loop
 unfolding encoded
-loop-again c = writes-one (c .before .before .before .before .before .before .before .before .before .loop .inv) (c .before .before .before .before .before .before .before .before .loop-test .taken) _ (sym (ap encoded (c .before .wrote .given .1)) ∙ c .before .before .before .before .before .encode .ensures .0) _ (c .before .before .before .before .before .encode .ensures .1)
+loop-again c =
+    let has-next = c .before in
+    let got-back = has-next .before .before .before in
+    let wrote-one = got-back .before in
+    let within = wrote-one .before .before .before in
+    let turn = within .before in
+    let e = wrote-one .encode .ensures in
+    writes-one (turn .loop .inv) (within .loop-test .taken) _ (sym (ap encoded (has-next .wrote .given .1)) ∙ e .0) _ (e .1)
 
 enum-told : tie.Need-enum-told Inv-loop μ-loop
 enum-told c = search needs
 
 same-length : tie.Need-same-length Inv-loop μ-loop
-same-length c = c .before .before .before .before .encode .kept .0 ∙ c .before .before .before .before .before .before .before .before .loop .inv .long
+same-length c =
+    let got-back = c .before .before .before in
+    let wrote-one = got-back .before in
+    let within = wrote-one .before .before .before in
+    let turn = within .before in
+    wrote-one .encode .kept .0 ∙ turn .loop .inv .long
 
 returns : tie.Need-returns Inv-loop μ-loop
 unfolding encoded
-returns c = absurd (writes-room (c .before .before .before .before .before .before .before .before .loop .inv) (c .before .before .before .before .before .before .before .loop-test .taken) (sym (ap encoded (c .enum-told .given .1)) ∙ c .before .before .before .before .encode .ensures .0))
+returns c =
+    let got-back = c .before .before .before in
+    let wrote-one = got-back .before in
+    let within = wrote-one .before .before .before in
+    let turn = within .before in
+    absurd (writes-room (turn .loop .inv) (within .loop-test .taken) (sym (ap encoded (c .enum-told .given .1)) ∙ wrote-one .encode .ensures .0))
 
 same-length-2 : tie.Need-same-length-2 Inv-loop μ-loop
 same-length-2 c = c .before .loop .inv .long

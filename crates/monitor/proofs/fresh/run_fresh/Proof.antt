@@ -19,8 +19,10 @@ same-length c = search needs
 
 returns : tie.Need-returns
 returns c =
-    let a = c .before .before .before .before .before .args in
-    let e = c .before .run-list .ensures ∙ ap (λ (m : Monitor). listOf m (now (a .calls)) (now (a .answers))) (c .before .before .before .fresh .ensures) in
+    let blank = c .before .before .before in
+    let start = blank .before .before in
+    let a = start .args in
+    let e = c .before .run-list .ensures ∙ ap (λ (m : Monitor). listOf m (now (a .calls)) (now (a .answers))) (blank .fresh .ensures) in
     (e, ap (λ (l : Listed). holds (thenLent (now (a .calls)) l [])) e ∙ lent-holds (now (a .calls)) (now (a .answers)))
 
 pub run-fresh-spec : {M : Type 1} → statement M

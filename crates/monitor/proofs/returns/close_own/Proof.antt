@@ -4,9 +4,12 @@ use Prim.Native.Nat.{_-_}
 use mathlib.Core.Path.{_≡_, sym, _∙_}
 use native.Mathlib.Omega.{arith}
 use borrow.Author.Needs.{needs}
+use mathlib.Core.Bool.{true}
+use Rattle.rules.specs.Record.{ownEnd}
 use Rattle.rules.proofs.Logic.{not-true, not-false}
 use Rattle.monitor.specs.View.{view}
-use Rattle.monitor.proofs.Closing.{stays, disconnects, conversation-goes, request-goes, closes, marks, not-own, no-conversation, Closes, close-start, close-drop, close-put, mark-drop, mark-put, close-end}
+use Rattle.monitor.proofs.Closing.{stays, disconnects, conversation-goes, request-goes, closes, marks, not-own, no-conversation}
+use Rattle.monitor.proofs.Closing.{Closes, close-start, close-drop, close-put, mark-drop, mark-put, close-end}
 use Rattle.monitor.proofs.returns.close_own.Statement.{statement}
 use Rattle.monitor.proofs.returns.close_own.Tie as tie
 
@@ -16,6 +19,25 @@ Inv-loop s₀ p from len i₀ j₀ s i j = (len ≡ view s₀ .count) × Closes 
 abbrev μ-loop : tie.MeasureT-loop
 μ-loop s₀ p from len i₀ j₀ s i j = len - i
 
+-- a turn whose link is an end of the party's own: where it began, the link that it read, and that it is one
+module _ (c : tie.Else1 Inv-loop μ-loop) where
+  abbrev at-link : tie.After-link-at Inv-loop μ-loop
+  at-link = c .before .before
+
+  abbrev within : tie.In-loop Inv-loop μ-loop
+  within = at-link .before .before
+
+  abbrev turn : tie.At-loop Inv-loop μ-loop
+  turn = within .before
+
+  abbrev start : tie.Start Inv-loop μ-loop
+  start =
+      let found-first = turn .before .before .before in
+      found-first .before .before
+
+  own : ownEnd (start .args .p) (at-link .link-at .result) ≡ true
+  own = sym (c .before .is-own-end .ensures) ∙ not-false _ (c .if1 .left)
+
 first-own-requires : tie.Need-first-own-requires Inv-loop μ-loop
 first-own-requires c κs = search needs
 
@@ -24,8 +46,9 @@ count-requires c κs = search needs
 
 loop-holds : tie.Need-loop-holds Inv-loop μ-loop
 loop-holds c =
-    let s = c .before .before .before .before in
-    (c .count .ensures, close-start (s .args .p) (s .args .s .now) _ (s .pre .1) (s .pre .0) (c .before .before .first-own .ensures))
+    let found-first = c .before .before in
+    let start = found-first .before .before in
+    (c .count .ensures, close-start (start .args .p) (start .args .s .now) _ (start .pre .1) (start .pre .0) (found-first .first-own .ensures))
 
 link-at-requires : tie.Need-link-at-requires Inv-loop μ-loop
 link-at-requires c κs = search needs
@@ -47,9 +70,13 @@ loop-less c = search needs
 
 loop-again : tie.Need-loop-again Inv-loop μ-loop
 loop-again c =
-    let v = c .before .before .before .before .before .before .before .loop in
-    let l = c .before .before .before .before .link-at in
-    let own = sym (c .before .before .before .is-own-end .ensures) ∙ not-true _ (c .before .before .if1 .taken) in
+    let foreign = c .before .before in
+    let asked-own = foreign .before in
+    let at-link = asked-own .before in
+    let turn = at-link .before .before .before in
+    let v = turn .loop in
+    let l = at-link .link-at in
+    let own = sym (asked-own .is-own-end .ensures) ∙ not-true _ (foreign .if1 .taken) in
     let e = v .inv .0 in
     (e, close-put (v .inv .1) (omega arith) (l .ensures) (not-own _ _ own) _ (c .put-link .ensures) (stays _ _ own))
 
@@ -67,9 +94,12 @@ add-i-2 c = search needs
 
 add-j-2 : tie.Need-add-j-2 Inv-loop μ-loop
 add-j-2 c =
-    let v = c .before .before .before .before .before .before .before .before .before .before .before .before .before .before .loop in
-    let g = v .inv .1 .sweep in
-    let h = c .before .before .before .before .before .before .before .before .before .before .before .before .before .loop-test .taken in
+    let stored = c .before .before in
+    let working = stored .before .before .before in
+    let conversation = working .before .before in
+    let is-own = conversation .before .before in
+    let g = turn is-own .loop .inv .1 .sweep in
+    let h = within is-own .loop-test .taken in
     search needs
 
 loop-less-2 : tie.Need-loop-less-2 Inv-loop μ-loop
@@ -77,12 +107,19 @@ loop-less-2 c = search needs
 
 loop-again-2 : tie.Need-loop-again-2 Inv-loop μ-loop
 loop-again-2 c =
-    let v = c .before .before .before .before .before .before .before .before .before .before .before .before .before .before .loop in
-    let l = c .before .before .before .before .before .before .before .before .before .before .before .link-at in
-    let own = sym (c .before .before .before .before .before .before .before .before .before .before .is-own-end .ensures) ∙ not-false _ (c .before .before .before .before .before .before .before .before .before .if1 .left) in
+    let stored = c .before .before in
+    let disconnected = stored .before .before in
+    let working = disconnected .before in
+    let conversation = working .before .before in
+    let is-own = conversation .before .before in
+    let v = turn is-own .loop in
+    let l = at-link is-own .link-at in
     let e = v .inv .0 in
-    let h = c .before .before .before .before .before .before .before .before .before .before .before .before .before .loop-test .taken in
-    (e, mark-put (v .inv .1) (omega arith) (l .ensures) (marks _ _ own (c .before .before .before .before .before .before .before .if2 .taken)) _ _ (c .before .before .put-link2 .ensures) (c .set-rollback-only .ensures) (disconnects _ _ own _ (c .before .before .before .before .before .before .before .if2 .taken) (c .before .before .before .before .before .if3 .taken) (c .before .before .before .before .disconnect-link .ensures)))
+    let h = within is-own .loop-test .taken in
+    let kind = conversation .if2 .taken in
+    let left = disconnects _ _ (own is-own) _ kind (working .if3 .taken) (disconnected .disconnect-link .ensures) in
+    let put = stored .put-link2 .ensures in
+    (e, mark-put (v .inv .1) (omega arith) (l .ensures) (marks _ _ (own is-own) kind) _ _ put (c .set-rollback-only .ensures) left)
 
 set-rollback-only-requires-2 : tie.Need-set-rollback-only-requires-2 Inv-loop μ-loop
 set-rollback-only-requires-2 c κs = search needs
@@ -95,11 +132,15 @@ loop-less-3 c = search needs
 
 loop-again-3 : tie.Need-loop-again-3 Inv-loop μ-loop
 loop-again-3 c =
-    let v = c .before .before .before .before .before .before .before .before .before .before .before .loop in
-    let l = c .before .before .before .before .before .before .before .before .link-at in
-    let own = sym (c .before .before .before .before .before .before .before .is-own-end .ensures) ∙ not-false _ (c .before .before .before .before .before .before .if1 .left) in
+    let done = c .before .before in
+    let conversation = done .before .before in
+    let is-own = conversation .before .before in
+    let v = turn is-own .loop in
+    let l = at-link is-own .link-at in
     let e = v .inv .0 in
-    (e, mark-drop (v .inv .1) (omega arith) (l .ensures) (marks _ _ own (c .before .before .before .before .if2 .taken)) _ (c .set-rollback-only2 .ensures) (conversation-goes _ _ own (c .before .before .before .before .if2 .taken) (c .before .before .if3 .left)))
+    let kind = conversation .if2 .taken in
+    let left = conversation-goes _ _ (own is-own) kind (done .if3 .left) in
+    (e, mark-drop (v .inv .1) (omega arith) (l .ensures) (marks _ _ (own is-own) kind) _ (c .set-rollback-only2 .ensures) left)
 
 add-i-4 : tie.Need-add-i-4 Inv-loop μ-loop
 add-i-4 c = search needs
@@ -109,11 +150,13 @@ loop-less-4 c = search needs
 
 loop-again-4 : tie.Need-loop-again-4 Inv-loop μ-loop
 loop-again-4 c =
-    let v = c .before .before .before .before .before .before .before .before .before .loop in
-    let l = c .before .before .before .before .before .before .link-at in
-    let own = sym (c .before .before .before .before .before .is-own-end .ensures) ∙ not-false _ (c .before .before .before .before .if1 .left) in
+    let request = c .before .before in
+    let is-own = request .before .before in
+    let v = turn is-own .loop in
+    let l = at-link is-own .link-at in
     let e = v .inv .0 in
-    (e, close-drop (v .inv .1) (omega arith) (l .ensures) (no-conversation _ _ (c .before .before .if2 .left)) (request-goes _ _ own (c .before .before .if2 .left) (c .if4 .taken)))
+    let kind = request .if2 .left in
+    (e, close-drop (v .inv .1) (omega arith) (l .ensures) (no-conversation _ _ kind) (request-goes _ _ (own is-own) kind (c .if4 .taken)))
 
 close-end-requires : tie.Need-close-end-requires Inv-loop μ-loop
 close-end-requires c κs = search needs
@@ -126,9 +169,11 @@ add-i-5 c = search needs
 
 add-j-3 : tie.Need-add-j-3 Inv-loop μ-loop
 add-j-3 c =
-    let v = c .before .before .before .before .before .before .before .before .before .before .before .before .loop in
-    let g = v .inv .1 .sweep in
-    let h = c .before .before .before .before .before .before .before .before .before .before .before .loop-test .taken in
+    let still-open = c .before .before .before in
+    let request = still-open .before .before in
+    let is-own = request .before .before in
+    let g = turn is-own .loop .inv .1 .sweep in
+    let h = within is-own .loop-test .taken in
     search needs
 
 loop-less-5 : tie.Need-loop-less-5 Inv-loop μ-loop
@@ -136,11 +181,16 @@ loop-less-5 c = search needs
 
 loop-again-5 : tie.Need-loop-again-5 Inv-loop μ-loop
 loop-again-5 c =
-    let v = c .before .before .before .before .before .before .before .before .before .before .before .before .loop in
-    let l = c .before .before .before .before .before .before .before .before .before .link-at in
-    let own = sym (c .before .before .before .before .before .before .before .before .is-own-end .ensures) ∙ not-false _ (c .before .before .before .before .before .before .before .if1 .left) in
+    let end-closed = c .before .before in
+    let still-open = end-closed .before in
+    let request = still-open .before .before in
+    let is-own = request .before .before in
+    let v = turn is-own .loop in
+    let l = at-link is-own .link-at in
     let e = v .inv .0 in
-    (e, close-put (v .inv .1) (omega arith) (l .ensures) (no-conversation _ _ (c .before .before .before .before .before .if2 .left)) _ (c .put-link3 .ensures) (closes _ _ own _ (c .before .before .before .before .before .if2 .left) (c .before .before .before .if4 .left) (c .before .before .close-end .ensures)))
+    let kind = request .if2 .left in
+    let left = closes _ _ (own is-own) _ kind (still-open .if4 .left) (end-closed .close-end .ensures) in
+    (e, close-put (v .inv .1) (omega arith) (l .ensures) (no-conversation _ _ kind) _ (c .put-link3 .ensures) left)
 
 keep-first-requires : tie.Need-keep-first-requires Inv-loop μ-loop
 keep-first-requires c κs = search needs

@@ -26,15 +26,22 @@ end-own-requires c κs = search needs
 
 returns : tie.Need-returns
 returns c =
-    let s = c .before .before .before .before .before .before .before in
-    let d = c .before .before .before .before .before .served-at in
-    (c .end-own .ensures .0 ∙ ap (λ (m : Monitor). endOwn m (s .args .p)) (c .before .before .close-own .ensures .0) ∙ idle _ _ _ (d .ensures) (c .before .before .before .before .if1 .taken), c .end-own .ensures .1)
+    let closed = c .before .before in
+    let serves-nothing = closed .before .before in
+    let read-served = serves-nothing .before in
+    let start = read-served .before .before in
+    let d = read-served .served-at in
+    let n = ap (λ (m : Monitor). endOwn m (start .args .p)) (closed .close-own .ensures .0) in
+    (c .end-own .ensures .0 ∙ n ∙ idle _ _ _ (d .ensures) (serves-nothing .if1 .taken), c .end-own .ensures .1)
 
 leave-link-requires : tie.Need-leave-link-requires
 leave-link-requires c κs = search needs
 
 returns-2 : tie.Need-returns-2
-returns-2 c = (c .leave-link .ensures .0 ∙ serving _ _ _ (c .before .before .before .served-at .ensures) (c .before .before .if1 .left), c .leave-link .ensures .1)
+returns-2 c = (
+  c .leave-link .ensures .0 ∙ serving _ _ _ (c .before .before .before .served-at .ensures) (c .before .before .if1 .left),
+  c .leave-link .ensures .1,
+)
 
 pub die-out-spec : {M : Type 1} → statement M
 die-out-spec =

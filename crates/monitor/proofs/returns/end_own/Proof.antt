@@ -18,14 +18,19 @@ first-of-tx-requires c κs = search needs
 
 end-tx-requires : tie.Need-end-tx-requires
 end-tx-requires c κs =
-    let s = c .before .before .before .before .before .before in
-    let first = c .before .first-of-tx .ensures ∙ ap (λ (t : ℕ). firstOf (ofTx t) (live (view (s .args .s .now)))) (c .before .before .before .before .owned-at .ensures) in
-    (s .pre .0, s .pre .1, s .pre .2, first)
+    let has-own = c .before .before .before in
+    let read-owned = has-own .before in
+    let start = read-owned .before .before in
+    let first = c .before .first-of-tx .ensures ∙ ap (λ (t : ℕ). firstOf (ofTx t) (live (view (start .args .s .now)))) (read-owned .owned-at .ensures) in
+    (start .pre .0, start .pre .1, start .pre .2, first)
 
 returns-2 : tie.Need-returns-2
 unfolding endOwn
 returns-2 c =
-    let owns = ne-eqb _ _ (λ h. c .before .before .before .before .if1 .left (c .before .before .before .before .before .owned-at .ensures ∙ h)) in
+    let found-first = c .before .before in
+    let has-own = found-first .before .before in
+    let read-owned = has-own .before in
+    let owns = ne-eqb _ _ (λ h. has-own .if1 .left (read-owned .owned-at .ensures ∙ h)) in
     (c .end-tx .ensures .0 ∙ sym (pick-false _ _ _ owns), c .end-tx .ensures .1, c .end-tx .ensures .2)
 
 pub end-own-spec : {M : Type 1} → statement M

@@ -1,6 +1,7 @@
 -- `returns::hand_back` meets its contract.
 -- Assumes nothing.
-use Rattle.monitor.proofs.Usual.{ℕ, _≡_, ap, sym, _∙_, needs, eq-eqb, ne-eqb, Link, Monitor, isAttached, linkOf, changed, removed, returned, handBack, view, pick-true, pick-false, live-of, changed-of}
+use Rattle.monitor.proofs.Usual.{ℕ, _≡_, ap, sym, _∙_, needs, eq-eqb, ne-eqb, Link, Monitor, isAttached, linkOf, changed}
+use Rattle.monitor.proofs.Usual.{removed, returned, handBack, view, pick-true, pick-false, live-of, changed-of}
 use Rattle.monitor.proofs.returns.hand_back.Statement.{statement}
 use Rattle.monitor.proofs.returns.hand_back.Tie as tie
 
@@ -24,22 +25,35 @@ change-at-requires c κs = search needs
 
 returns : tie.Need-returns
 returns c =
-    let a = c .before .before .before .before .before .before .before .before .args in
+    let attached = c .before .before in
+    let at-link = attached .before .before in
+    let placed = at-link .before .before in
+    let start = placed .before .before in
+    let a = start .args in
     let m = view (a .s .now) in
-    let i = c .before .before .before .before .before .before .place-of in
-    let l = c .before .before .before .before .live-at in
-    (c .change-at .ensures .0 ∙ changed-of m (a .d) (i .result) (i .ensures) (returned (l .result) (a .o) (a .e)) ∙ sym (returns-to-originator m (a .d) (a .o) (a .e) (l .result) (l .ensures ∙ live-of m (a .d) (i .result) (i .ensures)) (c .before .before .if1 .taken)), c .change-at .ensures .1)
+    let i = placed .place-of in
+    let l = at-link .live-at in
+    let n = changed-of m (a .d) (i .result) (i .ensures) (returned (l .result) (a .o) (a .e)) in
+    let link = l .ensures ∙ live-of m (a .d) (i .result) (i .ensures) in
+    let r = returns-to-originator m (a .d) (a .o) (a .e) (l .result) link (attached .if1 .taken) in
+    (c .change-at .ensures .0 ∙ n ∙ sym r, c .change-at .ensures .1)
 
 remove-at-requires : tie.Need-remove-at-requires
 remove-at-requires c κs = search needs
 
 returns-2 : tie.Need-returns-2
 returns-2 c =
-    let a = c .before .before .before .before .before .before .before .before .args in
+    let detached = c .before .before in
+    let at-link = detached .before .before in
+    let placed = at-link .before .before in
+    let start = placed .before .before in
+    let a = start .args in
     let m = view (a .s .now) in
-    let i = c .before .before .before .before .before .before .place-of in
-    let l = c .before .before .before .before .live-at in
-    (c .remove-at .ensures .0 ∙ sym (goes m (a .d) (a .o) (a .e) (l .result) (l .ensures ∙ live-of m (a .d) (i .result) (i .ensures)) (c .before .before .if1 .left)), c .remove-at .ensures .1)
+    let i = placed .place-of in
+    let l = at-link .live-at in
+    let link = l .ensures ∙ live-of m (a .d) (i .result) (i .ensures) in
+    let r = goes m (a .d) (a .o) (a .e) (l .result) link (detached .if1 .left) in
+    (c .remove-at .ensures .0 ∙ sym r, c .remove-at .ensures .1)
 
 pub hand-back-spec : {M : Type 1} → statement M
 hand-back-spec =

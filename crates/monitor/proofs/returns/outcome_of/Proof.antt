@@ -1,6 +1,7 @@
 -- `returns::outcome_of` meets its contract: an outcome for each early return.
 -- Assumes nothing.
-use Rattle.monitor.proofs.Usual.{ℕ, _≡_, ap, ap₂, sym, _∙_, Bool, true, false, not, _&&_, _||_, needs, eq-eqb, ne-eqb, eqb, Link, Monitor, pick, anyOf, isServerFree, party, live, ownEnd, plainOutcome, outcomeOf, pick-true, pick-false}
+use Rattle.monitor.proofs.Usual.{ℕ, _≡_, ap, ap₂, sym, _∙_, Bool, true, false, not, _&&_, _||_, needs, eq-eqb, ne-eqb, eqb, Link, Monitor, pick}
+use Rattle.monitor.proofs.Usual.{anyOf, isServerFree, party, live, view, ownEnd, plainOutcome, outcomeOf, pick-true, pick-false}
 use Rattle.rules.specs.Codes.{tpevSvcErr, tpevSvcFail, tpFail}
 use Rattle.monitor.proofs.returns.outcome_of.Statement.{statement}
 use Rattle.monitor.proofs.returns.outcome_of.Tie as tie
@@ -27,6 +28,23 @@ module _ (m : Monitor) (p a c : ℕ) (l : Link) (ends : Bool) (owned : ℕ) (e :
     unfolding outcomeOf
     by-sender k d = pick-false _ _ _ (asked false t) ∙ pick-true _ _ _ (eq-eqb _ _ k) ∙ pick-false _ _ _ (ap not (eq-eqb _ _ d))
 
+-- past the questions up to the disconnect it is the sender who decides
+abbrev start : tie.Else1 → tie.Start
+start c = c .before .before .before
+
+abbrev none-open : tie.Else3 → tie.Else1
+none-open joined = let conversation = joined .before .before in conversation .before .before
+
+settled : (c : tie.Else3) → let a = start (none-open c) .args in
+    outcomeOf (view (a .s .now)) (a .p) (a .a) (a .c) (a .l)
+    ≡ pick (isServerFree (a .l)) (plainOutcome (a .a)) (pick (eqb (a .a) tpFail && eqb (a .c) 0) tpevSvcFail tpevSvcErr)
+settled c =
+    let conversation = c .before .before in
+    let asked-ends = none-open c .before in
+    let ends = asked-ends .has-own-end .ensures in
+    let owned = asked-ends .before .owned-at .ensures in
+    by-sender _ _ _ _ _ _ _ ends owned (none-open c .if1 .left) (conversation .if2 .left) (c .if3 .left)
+
 owned-at-requires : tie.Need-owned-at-requires
 owned-at-requires c κs = search needs
 
@@ -40,10 +58,23 @@ plain-outcome-requires : tie.Need-plain-outcome-requires
 plain-outcome-requires c κs = search needs
 
 returns-2 : tie.Need-returns-2
-returns-2 c = c .plain-outcome .ensures ∙ sym (of-request _ _ _ _ _ _ _ (c .before .before .before .before .has-own-end .ensures) (c .before .before .before .before .before .owned-at .ensures) (c .before .before .before .if1 .left) (c .before .if2 .taken))
+returns-2 c =
+    let settles = c .before .before .before in
+    let asked-ends = settles .before in
+    let read-owned = asked-ends .before in
+    let ends = asked-ends .has-own-end .ensures in
+    let owned = read-owned .owned-at .ensures in
+    c .plain-outcome .ensures ∙ sym (of-request _ _ _ _ _ _ _ ends owned (settles .if1 .left) (c .before .if2 .taken))
 
 returns-3 : tie.Need-returns-3
-returns-3 c = sym (of-disconnected _ _ _ _ _ _ _ (c .before .before .before .before .before .has-own-end .ensures) (c .before .before .before .before .before .before .owned-at .ensures) (c .before .before .before .before .if1 .left) (c .before .before .if2 .left) (c .if3 .taken))
+returns-3 c =
+    let conversation = c .before .before in
+    let settles = conversation .before .before in
+    let asked-ends = settles .before in
+    let read-owned = asked-ends .before in
+    let ends = asked-ends .has-own-end .ensures in
+    let owned = read-owned .owned-at .ensures in
+    sym (of-disconnected _ _ _ _ _ _ _ ends owned (settles .if1 .left) (conversation .if2 .left) (c .if3 .taken))
 
 is-server-free-requires : tie.Need-is-server-free-requires
 is-server-free-requires c κs = search needs
@@ -52,13 +83,22 @@ plain-outcome-requires-2 : tie.Need-plain-outcome-requires-2
 plain-outcome-requires-2 c κs = search needs
 
 returns-4 : tie.Need-returns-4
-returns-4 c = c .plain-outcome2 .ensures ∙ sym (by-sender _ _ _ _ _ _ _ (c .before .before .before .before .before .before .before .before .has-own-end .ensures) (c .before .before .before .before .before .before .before .before .before .owned-at .ensures) (c .before .before .before .before .before .before .before .if1 .left) (c .before .before .before .before .before .if2 .left) (c .before .before .before .if3 .left) ∙ pick-true _ _ _ (sym (c .before .before .is-server-free .ensures) ∙ c .before .if4 .taken))
+returns-4 c =
+    let asked-free = c .before .before in
+    let free = sym (asked-free .is-server-free .ensures) ∙ c .before .if4 .taken in
+    c .plain-outcome2 .ensures ∙ sym (settled (asked-free .before) ∙ pick-true _ _ _ free)
 
 returns-5 : tie.Need-returns-5
-returns-5 c = sym (by-sender _ _ _ _ _ _ _ (c .before .before .before .before .before .before .before .before .has-own-end .ensures) (c .before .before .before .before .before .before .before .before .before .owned-at .ensures) (c .before .before .before .before .before .before .before .if1 .left) (c .before .before .before .before .before .if2 .left) (c .before .before .before .if3 .left) ∙ pick-false _ _ _ (sym (c .before .before .is-server-free .ensures) ∙ c .before .if4 .left) ∙ pick-true _ _ _ (c .if5 .taken))
+returns-5 c =
+    let asked-free = c .before .before in
+    let free = sym (asked-free .is-server-free .ensures) ∙ c .before .if4 .left in
+    sym (settled (asked-free .before) ∙ pick-false _ _ _ free ∙ pick-true _ _ _ (c .if5 .taken))
 
 returns-6 : tie.Need-returns-6
-returns-6 c = sym (by-sender _ _ _ _ _ _ _ (c .before .before .before .before .before .before .before .before .has-own-end .ensures) (c .before .before .before .before .before .before .before .before .before .owned-at .ensures) (c .before .before .before .before .before .before .before .if1 .left) (c .before .before .before .before .before .if2 .left) (c .before .before .before .if3 .left) ∙ pick-false _ _ _ (sym (c .before .before .is-server-free .ensures) ∙ c .before .if4 .left) ∙ pick-false _ _ _ (c .if5 .left))
+returns-6 c =
+    let asked-free = c .before .before in
+    let free = sym (asked-free .is-server-free .ensures) ∙ c .before .if4 .left in
+    sym (settled (asked-free .before) ∙ pick-false _ _ _ free ∙ pick-false _ _ _ (c .if5 .left))
 
 pub outcome-of-spec : {M : Type 1} → statement M
 outcome-of-spec =

@@ -4,7 +4,8 @@ use Rattle.monitor.proofs.Usual.{ℕ, _≡_, ap₂, _∙_, needs, Monit
 use Rattle.monitor.proofs.returns.return_with.Statement.{statement}
 use Rattle.monitor.proofs.returns.return_with.Tie as tie
 
-put-together : (m n : Monitor) (p d o c e : ℕ) (r : Told) → d ≡ party m p .served → e ≡ endingOf o c → n ≡ leave m p d o e → r ≡ toldValue o → ruledBy r n ≡ returnWith m p o c
+put-together : (m n : Monitor) (p d o c e : ℕ) (r : Told)
+    → d ≡ party m p .served → e ≡ endingOf o c → n ≡ leave m p d o e → r ≡ toldValue o → ruledBy r n ≡ returnWith m p o c
 unfolding returnWith
 put-together m n p d o c e r f g h t = ap₂ ruledBy t (h ∙ ap₂ (λ (x y : ℕ). leave m p x o y) f g)
 
@@ -22,8 +23,10 @@ accept-requires c κs = search needs
 
 returns : tie.Need-returns
 returns c =
+    let chose-ending = c .before .before .before in
+    let read-served = chose-ending .before in
     let n = c .before .leave-link in
-    (put-together _ _ _ _ _ _ _ _ (c .before .before .before .before .served-at .ensures) (c .before .before .before .ending-of .ensures) (n .ensures .0) (c .accept .ensures), n .ensures .1)
+    (put-together _ _ _ _ _ _ _ _ (read-served .served-at .ensures) (chose-ending .ending-of .ensures) (n .ensures .0) (c .accept .ensures), n .ensures .1)
 
 pub return-with-spec : {M : Type 1} → statement M
 return-with-spec =

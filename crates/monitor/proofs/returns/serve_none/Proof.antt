@@ -14,8 +14,10 @@ put-party-requires c κs = search needs
 returns : tie.Need-returns
 unfolding servesNone
 returns c =
-    let a = c .before .before .before .before .args in
-    (c .put-party .ensures .0 ∙ ap (λ (q : Party). withParty (view (a .s .now)) (a .p) (serving q 0)) (c .before .before .party-at .ensures), c .put-party .ensures .1)
+    let at-party = c .before .before in
+    let start = at-party .before .before in
+    let a = start .args in
+    (c .put-party .ensures .0 ∙ ap (λ (q : Party). withParty (view (a .s .now)) (a .p) (serving q 0)) (at-party .party-at .ensures), c .put-party .ensures .1)
 
 pub serve-none-spec : {M : Type 1} → statement M
 serve-none-spec = tie.close (tie.spec party-at-requires put-party-requires returns)

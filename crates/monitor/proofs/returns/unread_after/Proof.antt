@@ -15,7 +15,8 @@ returns : tie.Need-returns
 unfolding unreadAfter
 returns c =
     let o = c .before .before .before .args .o in
-    c .drop-unread .ensures ∙ sym (pick-true _ _ _ (ap (λ (b : Bool). eqb o tpevSvcErr || not b) (sym (c .before .before .is-server-free .ensures)) ∙ c .before .if1 .taken))
+    let answer = ap (λ (b : Bool). eqb o tpevSvcErr || not b) (sym (c .before .before .is-server-free .ensures)) in
+    c .drop-unread .ensures ∙ sym (pick-true _ _ _ (answer ∙ c .before .if1 .taken))
 
 returns-2 : tie.Need-returns-2
 unfolding unreadAfter

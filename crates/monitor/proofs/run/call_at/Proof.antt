@@ -57,7 +57,10 @@ shared-slice-read-t25 : tie.Need-shared-slice-read-t25
 shared-slice-read-t25 c = search needs
 
 returns : tie.Need-returns
-returns c = at-front (c .before .before .before .before .before .before .args .calls .now) (c .before .before .before .before .before .before .args .at)
+returns c =
+    let half-read = c .before .before .before in
+    let start = half-read .before .before .before in
+    at-front (start .args .calls .now) (start .args .at)
 
 pub call-at-spec : {M : Type 1} → statement M
 call-at-spec =

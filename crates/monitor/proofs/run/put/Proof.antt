@@ -1,11 +1,19 @@
 -- six stores, one after the other
-use Rattle.monitor.proofs.Usual.{ℕ, suc, _+_, _≤_, _≡_, _∙_, List, [], _∷_, _++_, arith, needs, length, take, drop, set, ℤ, pos, w64, toZ, ofZ, toZ-pos, placesOf}
+use Rattle.monitor.proofs.Usual.{ℕ, suc, _+_, _≤_, _≡_, _∙_, List, [], _∷_, _++_, arith, needs, length, take}
+use Rattle.monitor.proofs.Usual.{drop, set, ℤ, pos, w64, toZ, ofZ, toZ-pos, placesOf}
 use lib.ListN.{length-set}
 use lib.Seq.{sets-eq}
 use Rattle.monitor.proofs.run.put.Statement.{statement}
 use Rattle.monitor.proofs.run.put.Tie as tie
 
-six : (l : List ℤ) (at : ℕ) (a b c d e f : ℤ) → at + 6 ≤ length l → set (set (set (set (set (set l at a) (at + 1) b) (at + 2) c) (at + 3) d) (at + 4) e) (at + 5) f ≡ take at l ++ (a ∷ b ∷ c ∷ d ∷ e ∷ f ∷ []) ++ drop (at + 6) l
+-- the start, from where all six are stored
+abbrev start : tie.After-struct-known5 → tie.Start
+start c = let half-put = c .before .before .before in half-put .before .before .before
+
+abbrev stored : List ℤ → ℕ → ℤ → ℤ → ℤ → ℤ → ℤ → ℤ → List ℤ
+stored l at a b c d e f = set (set (set (set (set (set l at a) (at + 1) b) (at + 2) c) (at + 3) d) (at + 4) e) (at + 5) f
+
+six : (l : List ℤ) (at : ℕ) (a b c d e f : ℤ) → at + 6 ≤ length l → stored l at a b c d e f ≡ take at l ++ (a ∷ b ∷ c ∷ d ∷ e ∷ f ∷ []) ++ drop (at + 6) l
 six l at a b c d e f h =
     let p : at + 1 ≡ suc at = omega arith in
     let q : at + 2 ≡ suc (suc at) = omega arith in
@@ -86,7 +94,7 @@ same-length c = simp length-set
 returns : tie.Need-returns
 unfolding placesOf
 returns c =
-    let a = c .before .before .before .before .before .before .args in
+    let a = start c .args in
     let r = a .r in
     let code : toZ w64 (ofZ w64 (r .code)) ≡ r .code = search needs in
     let value : toZ w64 (r .value) ≡ pos (r .value) = toZ-pos w64 (omega arith) in

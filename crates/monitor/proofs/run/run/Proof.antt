@@ -1,5 +1,6 @@
 -- `run::run` meets its contract.
-use Rattle.monitor.proofs.Usual.{ℕ, _+_, _-_, _*_, _≤_, _≡_, refl, ap, sym, _∙_, List, _++_, true, arith, needs, length, take, drop, ℤ, sound, callOf, placesOf, ranOf, answersOf, words, view, stepped}
+use Rattle.monitor.proofs.Usual.{ℕ, _+_, _-_, _*_, _≤_, _≡_, refl, ap, sym, _∙_, List, _++_, true, arith, needs, length, take}
+use Rattle.monitor.proofs.Usual.{drop, ℤ, sound, callOf, placesOf, ranOf, answersOf, words, view, stepped}
 use Rattle.monitor.proofs.Turns.{turn-length, turn-answers, turn-past, turn-ran, answers-none, ran-none}
 use lib.ListN.{take-append-drop}
 use mathlib.Core.List.{append-nil}
@@ -8,7 +9,8 @@ use Rattle.monitor.proofs.run.run.Tie as tie
 
 abbrev Inv-loop : tie.InvT-loop
 Inv-loop s₀ calls out₀ n i₀ s out i =
-    (i ≤ n) × (length out ≡ length out₀) × (take (i * 6) out ++ answersOf (n - i) (view s) (drop (i * 6) calls) ≡ answersOf n (view s₀) calls) × (drop (i * 6) out ≡ drop (i * 6) out₀)
+    (i ≤ n) × (length out ≡ length out₀)
+    × (take (i * 6) out ++ answersOf (n - i) (view s) (drop (i * 6) calls) ≡ answersOf n (view s₀) calls) × (drop (i * 6) out ≡ drop (i * 6) out₀)
     × (ranOf (n - i) (view s) (drop (i * 6) calls) ≡ ranOf n (view s₀) calls) × (sound (view s) ≡ true) × (length s ≡ words)
 
 abbrev μ-loop : tie.MeasureT-loop
@@ -19,7 +21,9 @@ loop-holds c =
     let a = c .before .args in
     let m = view (a .s .now) in
     let z : a .n - 0 ≡ a .n = omega arith in
-    (omega arith, refl, ap (λ (k : ℕ). answersOf k m (a .calls .now)) z, refl, ap (λ (k : ℕ). ranOf k m (a .calls .now)) z, c .before .pre .0, c .before .pre .1)
+    let answers = ap (λ (k : ℕ). answersOf k m (a .calls .now)) z in
+    let ran = ap (λ (k : ℕ). ranOf k m (a .calls .now)) z in
+    (omega arith, refl, answers, refl, ran, c .before .pre .0, c .before .pre .1)
 
 mul-at : tie.Need-mul-at Inv-loop μ-loop
 mul-at c = search needs
@@ -41,17 +45,22 @@ loop-less c = search needs
 
 loop-again : tie.Need-loop-again Inv-loop μ-loop
 loop-again c =
-    let a = c .before .before .before .before .before .before .before .before .before .args in
-    let v = c .before .before .before .before .before .before .before .loop in
-    let t = c .before .before .before .before .before .before .loop-test .taken in
-    let d = c .before .before .before .call-on in
+    let answered = c .before .before .before in
+    let at-call = answered .before .before in
+    let within = at-call .before in
+    let turn = within .before in
+    let start = turn .before .before in
+    let a = start .args in
+    let v = turn .loop in
+    let t = within .loop-test .taken in
+    let d = answered .call-on in
     let s = stepped (d .result) (view (d .last .0)) in
     let m = view (v .s) in
     let m₀ = view (a .s .now) in
     let out′ = c .before .put .last .0 in
-    let e = d .ensures .0 ∙ ap (callOf m) (c .before .before .before .before .before .call-at .ensures) in
+    let e = d .ensures .0 ∙ ap (callOf m) (at-call .call-at .ensures) in
     let w : out′ ≡ take (v .i * 6) (v .out) ++ placesOf (s .answer) ++ drop (v .i * 6 + 6) (v .out) = c .before .put .ensures in
-    let room : a .n * 6 ≤ length (v .out) = omega (arith, v .inv .1, c .before .before .before .before .before .before .before .before .before .pre) in (
+    let room : a .n * 6 ≤ length (v .out) = omega (arith, v .inv .1, start .pre) in (
       omega (arith, t),
       turn-length (a .n) (v .i) t (a .calls .now) m m₀ s e (v .out) (a .out .now) out′ room w ∙ v .inv .1,
       turn-answers (a .n) (v .i) t (a .calls .now) m m₀ s e (v .out) (a .out .now) out′ room w (v .inv .2),

@@ -18,26 +18,39 @@ is-sound-in-requires c κs = search needs
 returns-3 : tie.Need-returns-3
 unfolding listOf
 returns-3 c =
+    let enough = c .before .before .before in
+    let finished = enough .before in
+    let start = finished .before .before in
     let q = sym (c .before .is-sound-in .ensures) ∙ not-true _ (c .if3 .taken) in
-    (sym (pick-true _ _ _ (eq-eqb _ _ (c .before .before .before .before .if1 .left)) ∙ pick-true _ _ _ (le-leb _ _ (c .before .before .before .if2 .left)) ∙ pick-false _ _ _ q), c .before .before .before .before .before .before .pre)
+    (sym (pick-true _ _ _ (eq-eqb _ _ (finished .if1 .left)) ∙ pick-true _ _ _ (le-leb _ _ (enough .if2 .left)) ∙ pick-false _ _ _ q), start .pre)
 
 run-requires : tie.Need-run-requires
-run-requires c κs = (
-  sym (c .before .before .before .is-sound-in .ensures) ∙ not-false _ (c .before .before .if3 .left),
-  c .before .before .before .before .before .before .before .before .pre,
-  omega arith,
-  omega (arith, c .before .before .before .before .before .if2 .left),
-)
+run-requires c κs =
+    let is-sound = c .before .before in
+    let asked-sound = is-sound .before in
+    let enough = asked-sound .before .before in
+    let start = enough .before .before .before in (
+      sym (asked-sound .is-sound-in .ensures) ∙ not-false _ (is-sound .if3 .left),
+      start .pre,
+      omega arith,
+      omega (arith, enough .if2 .left),
+    )
 
 same-length : tie.Need-same-length
 same-length c = search needs
 
 returns-4 : tie.Need-returns-4
 returns-4 c =
-    let a = c .before .before .before .before .before .before .before .before .before .before .args in
-    let r = c .before .run .ensures in
-    let fine = sym (c .before .before .before .before .before .is-sound-in .ensures) ∙ not-false _ (c .before .before .before .before .if3 .left) in
-    (list-ran (view (a .s .now)) (a .calls .now) (a .answers .now) (c .before .before .before .before .before .before .before .before .if1 .left) (c .before .before .before .before .before .before .before .if2 .left) fine _ _ (r .0) (r .1), r .2)
+    let ran = c .before in
+    let is-sound = ran .before .before .before in
+    let asked-sound = is-sound .before in
+    let enough = asked-sound .before .before in
+    let finished = enough .before in
+    let start = finished .before .before in
+    let a = start .args in
+    let r = ran .run .ensures in
+    let fine = sym (asked-sound .is-sound-in .ensures) ∙ not-false _ (is-sound .if3 .left) in
+    (list-ran (view (a .s .now)) (a .calls .now) (a .answers .now) (finished .if1 .left) (enough .if2 .left) fine _ _ (r .0) (r .1), r .2)
 
 pub run-on-spec : {M : Type 1} → statement M
 run-on-spec =

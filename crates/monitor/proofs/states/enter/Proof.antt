@@ -15,9 +15,12 @@ put-party-requires c κs = search needs
 returns : tie.Need-returns
 unfolding entered
 returns c =
-    let a = c .before .before .before .before .before .args in (
+    let other-state = c .before .before in
+    let at-party = other-state .before in
+    let start = at-party .before .before in
+    let a = start .args in (
       c .put-party .ensures .0
-          ∙ ap (withParty (view (a .s .now)) (a .p)) (c .before .before .in-state .ensures ∙ ap (λ (q : Party). inState q (a .state)) (c .before .before .before .party-at .ensures)),
+          ∙ ap (withParty (view (a .s .now)) (a .p)) (other-state .in-state .ensures ∙ ap (λ (q : Party). inState q (a .state)) (at-party .party-at .ensures)),
       c .put-party .ensures .1,
     )
 

@@ -14,8 +14,11 @@ set-clock-requires c κs = search needs
 
 returns : tie.Need-returns
 returns c =
-    let a = c .before .before .before .before .before .args in
-    let later = c .before .before .later .ensures ∙ ap (λ (k : ℕ). laterOf k (a .t)) (c .before .before .before .clock .ensures) in
+    let later-clock = c .before .before in
+    let read-clock = later-clock .before in
+    let start = read-clock .before .before in
+    let a = start .args in
+    let later = later-clock .later .ensures ∙ ap (λ (k : ℕ). laterOf k (a .t)) (read-clock .clock .ensures) in
     (c .set-clock .ensures .0 ∙ ap (withClock (view (a .s .now))) later, c .set-clock .ensures .1)
 
 pub advance-spec : {M : Type 1} → statement M

@@ -1,5 +1,6 @@
 -- `steps::call_on` meets its contract.
-use Rattle.monitor.proofs.Usual.{ap, sym, _∙_, arith, needs, lt-leb, not-true, not-false, Stepped, sound, turnedDown, callOf, view, stepped, pick-true, pick-false, count-kept, sound-room}
+use Rattle.monitor.proofs.Usual.{ap, sym, _∙_, arith, needs, lt-leb, not-true, not-false, Stepped, sound, turnedDown}
+use Rattle.monitor.proofs.Usual.{callOf, view, stepped, pick-true, pick-false, count-kept, sound-room}
 use Rattle.rules.specs.declared.Answer.{Answer}
 use Rattle.monitor.proofs.Steady.{call-sound, told-call, rule-room}
 use Rattle.monitor.proofs.steps.call_on.Statement.{statement}
@@ -11,9 +12,11 @@ turn-down-requires c κs = search needs
 returns : tie.Need-returns
 unfolding callOf turnedDown
 returns c =
-    let m = view (c .before .before .before .before .args .s .now) in
-    let h = c .before .before .before .before .pre in
-    (ap (λ (r : Answer). stepped r m) (c .turn-down .ensures) ∙ sym (pick-false _ _ _ (not-true _ (c .before .if1 .taken))), h .0, h .1)
+    let no-kind = c .before in
+    let start = no-kind .before .before .before in
+    let m = view (start .args .s .now) in
+    let h = start .pre in
+    (ap (λ (r : Answer). stepped r m) (c .turn-down .ensures) ∙ sym (pick-false _ _ _ (not-true _ (no-kind .if1 .taken))), h .0, h .1)
 
 turn-down-requires-2 : tie.Need-turn-down-requires-2
 turn-down-requires-2 c κs = search needs
@@ -21,10 +24,12 @@ turn-down-requires-2 c κs = search needs
 returns-2 : tie.Need-returns-2
 unfolding callOf turnedDown
 returns-2 c =
-    let m = view (c .before .before .before .before .before .before .args .s .now) in
-    let h = c .before .before .before .before .before .before .pre in (
+    let is-kind = c .before .before .before in
+    let start = is-kind .before .before .before in
+    let m = view (start .args .s .now) in
+    let h = start .pre in (
       ap (λ (r : Answer). stepped r m) (c .turn-down2 .ensures)
-          ∙ sym (pick-true _ _ _ (not-false _ (c .before .before .before .if1 .left)) ∙ pick-false _ _ _ (lt-leb _ _ (c .before .if2 .taken))),
+          ∙ sym (pick-true _ _ _ (not-false _ (is-kind .if1 .left)) ∙ pick-false _ _ _ (lt-leb _ _ (c .before .if2 .taken))),
       h .0,
       h .1,
     )
@@ -37,21 +42,37 @@ cast-p c = search needs
 
 rule-requires : tie.Need-rule-requires
 rule-requires c κs =
-    let v = c .before .before .advance .ensures in
-    (omega (arith, c .before .before .before .before .if2 .left), count-kept (v .0) (sound-room _ (c .before .before .before .before .before .before .before .before .before .pre .0)), v .1)
+    let advanced = c .before .before in
+    let is-party = advanced .before .before in
+    let is-kind = is-party .before .before in
+    let start = is-kind .before .before .before in
+    let v = advanced .advance .ensures in
+    (omega (arith, is-party .if2 .left), count-kept (v .0) (sound-room _ (start .pre .0)), v .1)
 
 tell-requires : tie.Need-tell-requires
 tell-requires c κs =
-    let a = c .before .before .before .before .before .before .before .before .before .before .before .args in
-    let near = c .before .before .before .before .before .before .if2 .left in
-    (omega (arith, near), rule-room (a .s .now) (a .c) (not-false _ (c .before .before .before .before .before .before .before .before .if1 .left)) near _ (c .before .before .before .before .advance .ensures .0) _ (c .before .rule .ensures .0) (c .before .before .before .before .before .before .before .before .before .before .before .pre .0))
+    let ruled = c .before in
+    let advanced = ruled .before .before .before in
+    let is-party = advanced .before .before in
+    let is-kind = is-party .before .before in
+    let start = is-kind .before .before .before in
+    let a = start .args in
+    let near = is-party .if2 .left in
+    let moved = advanced .advance .ensures .0 in
+    (omega (arith, near), rule-room (a .s .now) (a .c) (not-false _ (is-kind .if1 .left)) near _ moved _ (ruled .rule .ensures .0) (start .pre .0))
 
 returns-3 : tie.Need-returns-3
 returns-3 c =
-    let a = c .before .before .before .before .before .before .before .before .before .before .before .before .args in
-    let r = c .before .before .rule .ensures in
-    let e = c .tell .ensures ∙ told-call (a .s .now) (a .c) (not-false _ (c .before .before .before .before .before .before .before .before .before .if1 .left)) (c .before .before .before .before .before .before .before .if2 .left) _ (c .before .before .before .before .before .advance .ensures .0) _ (r .0) in
-    (e, ap (λ (s : Stepped). sound (s .monitor)) e ∙ call-sound (a .s .now) (a .c) (c .before .before .before .before .before .before .before .before .before .before .before .before .pre .0), r .1)
+    let ruled = c .before .before in
+    let advanced = ruled .before .before .before in
+    let is-party = advanced .before .before in
+    let is-kind = is-party .before .before in
+    let start = is-kind .before .before .before in
+    let a = start .args in
+    let r = ruled .rule .ensures in
+    let kind = not-false _ (is-kind .if1 .left) in
+    let e = c .tell .ensures ∙ told-call (a .s .now) (a .c) kind (is-party .if2 .left) _ (advanced .advance .ensures .0) _ (r .0) in
+    (e, ap (λ (s : Stepped). sound (s .monitor)) e ∙ call-sound (a .s .now) (a .c) (start .pre .0), r .1)
 
 pub call-on-spec : {M : Type 1} → statement M
 call-on-spec =

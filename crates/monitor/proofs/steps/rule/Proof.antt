@@ -1,35 +1,54 @@
 -- `steps::rule` meets its contract: the rule of the kind that the match found.
-use Rattle.monitor.proofs.Usual.{ℕ, _≡_, ap, sym, _∙_, ⊎-elim, needs, ne-eqb, Monitor, Ruled, pick, unknownKind, ruled, ruleOf, Told, view, ruledBy, pick-false}
+use Prim.Native.Nat.{zero}
+use Rattle.monitor.proofs.Usual.{ℕ, suc, _≤_, _<_, _≡_, ap, sym, _∙_, false, ⊎-elim, arith, needs, eqb, ne-eqb, Monitor, Ruled, pick}
+use Rattle.monitor.proofs.Usual.{unknownKind, ruled, ruleOf, Told, view, ruledBy, pick-false}
 use Rattle.monitor.proofs.steps.rule.Statement.{statement}
 use Rattle.monitor.proofs.steps.rule.Tie as tie
 
 at : (m : Monitor) (p a b c : ℕ) {k n : ℕ} → k ≡ n → {r : Ruled} → r ≡ ruleOf m p n a b c → r ≡ ruleOf m p k a b c
 at m p a b c e f = f ∙ sym (ap (λ (k : ℕ). ruleOf m p k a b c) e)
 
-unknown : (m : Monitor) (p k a b c : ℕ) → (k ≡ 1 → ⊥) → (k ≡ 2 → ⊥) → (k ≡ 3 → ⊥) → (k ≡ 4 → ⊥) → (k ≡ 5 → ⊥) → (k ≡ 6 → ⊥) → (k ≡ 7 → ⊥) → (k ≡ 8 → ⊥) → (k ≡ 9 → ⊥) → (k ≡ 10 → ⊥) → (k ≡ 11 → ⊥) → (k ≡ 12 → ⊥) → (k ≡ 13 → ⊥) → (k ≡ 14 → ⊥) → (k ≡ 15 → ⊥) → (k ≡ 16 → ⊥) → (k ≡ 17 → ⊥) → (k ≡ 18 → ⊥) → (k ≡ 19 → ⊥) → (k ≡ 20 → ⊥) → (k ≡ 21 → ⊥) → ruleOf m p k a b c ≡ ruled m unknownKind
+-- none of the numbers from 1 to n, as a match says it, beside what it says first
+Others : Type 0 → ℕ → ℕ → Type 0
+Others B k zero = B
+Others B k (suc n) = Others B k n × (k ≡ suc n → ⊥)
+
+positive : (k : ℕ) → (k ≡ 0 → ⊥) → 0 < k
+positive k h = omega arith
+
+above : (B : Type 0) (k n : ℕ) → 0 < k → Others B k n → n < k
+unfolding Others
+above B k zero h o = h
+above B k (suc n) h o =
+    let l = above B k n h (o .0) in
+    omega (arith, o .1)
+
+-- no kind is above 21
+unknown : (m : Monitor) (p k a b c : ℕ) → 21 < k → ruleOf m p k a b c ≡ ruled m unknownKind
 unfolding ruleOf
-unknown m p k a b c n1 n2 n3 n4 n5 n6 n7 n8 n9 n10 n11 n12 n13 n14 n15 n16 n17 n18 n19 n20 n21 =
-    pick-false _ _ _ (ne-eqb k 1 n1)
-    ∙ pick-false _ _ _ (ne-eqb k 2 n2)
-    ∙ pick-false _ _ _ (ne-eqb k 3 n3)
-    ∙ pick-false _ _ _ (ne-eqb k 4 n4)
-    ∙ pick-false _ _ _ (ne-eqb k 5 n5)
-    ∙ pick-false _ _ _ (ne-eqb k 6 n6)
-    ∙ pick-false _ _ _ (ne-eqb k 7 n7)
-    ∙ pick-false _ _ _ (ne-eqb k 8 n8)
-    ∙ pick-false _ _ _ (ne-eqb k 9 n9)
-    ∙ pick-false _ _ _ (ne-eqb k 10 n10)
-    ∙ pick-false _ _ _ (ne-eqb k 11 n11)
-    ∙ pick-false _ _ _ (ne-eqb k 12 n12)
-    ∙ pick-false _ _ _ (ne-eqb k 13 n13)
-    ∙ pick-false _ _ _ (ne-eqb k 14 n14)
-    ∙ pick-false _ _ _ (ne-eqb k 15 n15)
-    ∙ pick-false _ _ _ (ne-eqb k 16 n16)
-    ∙ pick-false _ _ _ (ne-eqb k 17 n17)
-    ∙ pick-false _ _ _ (ne-eqb k 18 n18)
-    ∙ pick-false _ _ _ (ne-eqb k 19 n19)
-    ∙ pick-false _ _ _ (ne-eqb k 20 n20)
-    ∙ pick-false _ _ _ (ne-eqb k 21 n21)
+unknown m p k a b c h =
+    let other : (n : ℕ) → n ≤ 21 → eqb k n ≡ false = λ n l. ne-eqb k n (λ e. omega arith) in
+    pick-false _ _ _ (other 1 (omega arith))
+    ∙ pick-false _ _ _ (other 2 (omega arith))
+    ∙ pick-false _ _ _ (other 3 (omega arith))
+    ∙ pick-false _ _ _ (other 4 (omega arith))
+    ∙ pick-false _ _ _ (other 5 (omega arith))
+    ∙ pick-false _ _ _ (other 6 (omega arith))
+    ∙ pick-false _ _ _ (other 7 (omega arith))
+    ∙ pick-false _ _ _ (other 8 (omega arith))
+    ∙ pick-false _ _ _ (other 9 (omega arith))
+    ∙ pick-false _ _ _ (other 10 (omega arith))
+    ∙ pick-false _ _ _ (other 11 (omega arith))
+    ∙ pick-false _ _ _ (other 12 (omega arith))
+    ∙ pick-false _ _ _ (other 13 (omega arith))
+    ∙ pick-false _ _ _ (other 14 (omega arith))
+    ∙ pick-false _ _ _ (other 15 (omega arith))
+    ∙ pick-false _ _ _ (other 16 (omega arith))
+    ∙ pick-false _ _ _ (other 17 (omega arith))
+    ∙ pick-false _ _ _ (other 18 (omega arith))
+    ∙ pick-false _ _ _ (other 19 (omega arith))
+    ∙ pick-false _ _ _ (other 20 (omega arith))
+    ∙ pick-false _ _ _ (other 21 (omega arith))
 
 tx-open-requires : tie.Need-tx-open-requires
 tx-open-requires c κs = search needs
@@ -143,13 +162,15 @@ returns-8 : tie.Need-returns-8
 unfolding ruleOf pick
 returns-8 c =
     let a = c .before .before .before .args in
-    (at (view (a .s .now)) (a .p) (a .a) (a .b) (a .c) (c .before .before .match .keys8) (c .tx-set-transaction-control .ensures .0), c .tx-set-transaction-control .ensures .1)
+    let r = c .tx-set-transaction-control .ensures in
+    (at (view (a .s .now)) (a .p) (a .a) (a .b) (a .c) (c .before .before .match .keys8) (r .0), r .1)
 
 returns-9 : tie.Need-returns-9
 unfolding ruleOf pick
 returns-9 c =
     let a = c .before .before .before .args in
-    (at (view (a .s .now)) (a .p) (a .a) (a .b) (a .c) (c .before .before .match .keys9) (c .tx-set-transaction-timeout .ensures .0), c .tx-set-transaction-timeout .ensures .1)
+    let r = c .tx-set-transaction-timeout .ensures in
+    (at (view (a .s .now)) (a .p) (a .a) (a .b) (a .c) (c .before .before .match .keys9) (r .0), r .1)
 
 returns-10 : tie.Need-returns-10
 unfolding ruleOf pick
@@ -224,14 +245,14 @@ returns-21 c =
     (at (view (a .s .now)) (a .p) (a .a) (a .b) (a .c) (c .before .before .match .keys21) (c .terminate .ensures .0), c .terminate .ensures .1)
 
 returns-22 : tie.Need-returns-22
-unfolding ruleOf pick
+unfolding ruleOf pick Others
 returns-22 c =
     let a = c .before .before .args in
     let m = view (a .s .now) in
     let e = ap (λ (t : Told). ruledBy t m) (c .coded .ensures) in (
       ⊎-elim
           (λ w. at m (a .p) (a .a) (a .b) (a .c) (w .keys22) e)
-          (λ w. e ∙ sym (unknown m (a .p) (a .k) (a .a) (a .b) (a .c) (w .rest .0 .0 .0 .0 .0 .0 .0 .0 .0 .0 .0 .0 .0 .0 .0 .0 .0 .0 .0 .0 .0 .1) (w .rest .0 .0 .0 .0 .0 .0 .0 .0 .0 .0 .0 .0 .0 .0 .0 .0 .0 .0 .0 .0 .1) (w .rest .0 .0 .0 .0 .0 .0 .0 .0 .0 .0 .0 .0 .0 .0 .0 .0 .0 .0 .0 .1) (w .rest .0 .0 .0 .0 .0 .0 .0 .0 .0 .0 .0 .0 .0 .0 .0 .0 .0 .0 .1) (w .rest .0 .0 .0 .0 .0 .0 .0 .0 .0 .0 .0 .0 .0 .0 .0 .0 .0 .1) (w .rest .0 .0 .0 .0 .0 .0 .0 .0 .0 .0 .0 .0 .0 .0 .0 .0 .1) (w .rest .0 .0 .0 .0 .0 .0 .0 .0 .0 .0 .0 .0 .0 .0 .0 .1) (w .rest .0 .0 .0 .0 .0 .0 .0 .0 .0 .0 .0 .0 .0 .0 .1) (w .rest .0 .0 .0 .0 .0 .0 .0 .0 .0 .0 .0 .0 .0 .1) (w .rest .0 .0 .0 .0 .0 .0 .0 .0 .0 .0 .0 .0 .1) (w .rest .0 .0 .0 .0 .0 .0 .0 .0 .0 .0 .0 .1) (w .rest .0 .0 .0 .0 .0 .0 .0 .0 .0 .0 .1) (w .rest .0 .0 .0 .0 .0 .0 .0 .0 .0 .1) (w .rest .0 .0 .0 .0 .0 .0 .0 .0 .1) (w .rest .0 .0 .0 .0 .0 .0 .0 .1) (w .rest .0 .0 .0 .0 .0 .0 .1) (w .rest .0 .0 .0 .0 .0 .1) (w .rest .0 .0 .0 .0 .1) (w .rest .0 .0 .0 .1) (w .rest .0 .0 .1) (w .rest .0 .1)))
+          (λ w. e ∙ sym (unknown m (a .p) (a .k) (a .a) (a .b) (a .c) (above _ (a .k) 21 (positive _ (w .rest .1)) (w .rest .0))))
           (c .before .match .came),
       c .before .before .pre .2,
     )

@@ -12,12 +12,16 @@ turn-down-requires c κs = search needs
 returns : tie.Need-returns
 unfolding stepOf turnedDown
 returns c =
-    let a = c .before .before .before .before in
-    let q = sym (c .before .before .is-sound-in .ensures) ∙ not-true _ (c .before .if1 .taken) in
-    ((λ i. stepped (c .turn-down .ensures i) (view (a .args .s .now))) ∙ sym (pick-false _ _ _ q), a .pre)
+    let asked-sound = c .before .before in
+    let start = asked-sound .before .before in
+    let q = sym (asked-sound .is-sound-in .ensures) ∙ not-true _ (c .before .if1 .taken) in
+    ((λ i. stepped (c .turn-down .ensures i) (view (start .args .s .now))) ∙ sym (pick-false _ _ _ q), start .pre)
 
 call-on-requires : tie.Need-call-on-requires
-call-on-requires c κs = (sym (c .before .before .is-sound-in .ensures) ∙ not-false _ (c .before .if1 .left), c .before .before .before .before .pre)
+call-on-requires c κs =
+    let asked-sound = c .before .before in
+    let start = asked-sound .before .before in
+    (sym (asked-sound .is-sound-in .ensures) ∙ not-false _ (c .before .if1 .left), start .pre)
 
 returns-2 : tie.Need-returns-2
 unfolding stepOf

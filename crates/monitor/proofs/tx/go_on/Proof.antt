@@ -1,6 +1,7 @@
 -- `tx::go_on` meets its contract: unchained, chained, and chained with the numbers spent.
 -- Assumes nothing.
-use Rattle.monitor.proofs.Usual.{_≡_, ap, ap₂, sym, _∙_, needs, eq-eqb, ne-eqb, pick-true, pick-false, toZ, ofZ, w64, Monitor, ruled, entered, goOn, noBegin, view}
+use Rattle.monitor.proofs.Usual.{_≡_, ap, ap₂, sym, _∙_, needs, eq-eqb, ne-eqb, pick-true, pick-false, toZ}
+use Rattle.monitor.proofs.Usual.{ofZ, w64, Monitor, ruled, entered, goOn, noBegin, view}
 use Rattle.monitor.proofs.Telling.{code-told, tx-left, tx-spent}
 use Rattle.monitor.proofs.tx.go_on.Statement.{statement}
 use Rattle.monitor.proofs.tx.go_on.Tie as tie
@@ -14,10 +15,12 @@ coded-requires c κs = search needs
 returns : tie.Need-returns
 unfolding goOn
 returns c =
-    let a = c .before .before .before .before .args in
+    let stays = c .before .before .before in
+    let start = stays .before in
+    let a = start .args in
     let n = c .before .enter .ensures in
     let z : toZ w64 (ofZ w64 (a .code)) ≡ a .code = search needs in
-    (code-told _ (c .coded .ensures) ∙ ap₂ ruled (n .0) z ∙ sym (pick-false _ _ _ (ne-eqb _ _ (c .before .before .before .if1 .taken))), n .1)
+    (code-told _ (c .coded .ensures) ∙ ap₂ ruled (n .0) z ∙ sym (pick-false _ _ _ (ne-eqb _ _ (stays .if1 .taken))), n .1)
 
 last-tx-requires : tie.Need-last-tx-requires
 last-tx-requires c κs = search needs
@@ -34,13 +37,18 @@ coded-requires-2 c κs = search needs
 returns-2 : tie.Need-returns-2
 unfolding goOn
 returns-2 c =
-    let a = c .before .before .before .before .before .before .before .before .before .args in
+    let begun = c .before .before .before in
+    let number-left = begun .before .before in
+    let read-last = number-left .before in
+    let renews = read-last .before .before in
+    let start = renews .before in
+    let a = start .args in
     let n = c .before .enter2 .ensures in
     let z : toZ w64 (ofZ w64 (a .code)) ≡ a .code = search needs in
-    let left = tx-left (view (a .s .now)) _ (c .before .before .before .before .before .before .last-tx .ensures) (c .before .before .before .before .before .if2 .taken) in (
+    let left = tx-left (view (a .s .now)) _ (read-last .last-tx .ensures) (number-left .if2 .taken) in (
       code-told _ (c .coded2 .ensures)
-          ∙ ap₂ ruled (n .0 ∙ ap (λ (m : Monitor). entered m (a .p) 4) (c .before .before .before .begin-tx .ensures .0)) z
-          ∙ sym (pick-true _ _ _ (eq-eqb _ _ (c .before .before .before .before .before .before .before .before .if1 .left)) ∙ pick-true _ _ _ left),
+          ∙ ap₂ ruled (n .0 ∙ ap (λ (m : Monitor). entered m (a .p) 4) (begun .begin-tx .ensures .0)) z
+          ∙ sym (pick-true _ _ _ (eq-eqb _ _ (renews .if1 .left)) ∙ pick-true _ _ _ left),
       n .1,
     )
 
@@ -56,15 +64,20 @@ coded-requires-3 c κs = search needs
 returns-3 : tie.Need-returns-3
 unfolding goOn
 returns-3 c =
-    let a = c .before .before .before .before .before .before .before .before .args in
-    let n = c .before .before .enter3 .ensures in
+    let moved = c .before .before in
+    let none-left = moved .before .before in
+    let read-last = none-left .before in
+    let renews = read-last .before .before in
+    let start = renews .before in
+    let a = start .args in
+    let n = moved .enter3 .ensures in
     let b = c .before .no-begin in
     let z : toZ w64 (ofZ w64 (a .code)) ≡ a .code = search needs in
     let r : toZ w64 (ofZ w64 (b .result)) ≡ b .result = search needs in
-    let spent = tx-spent (view (a .s .now)) _ (c .before .before .before .before .before .last-tx .ensures) (c .before .before .before .before .if2 .left) in (
+    let spent = tx-spent (view (a .s .now)) _ (read-last .last-tx .ensures) (none-left .if2 .left) in (
       code-told _ (c .coded3 .ensures)
           ∙ ap₂ ruled (n .0) (r ∙ b .ensures ∙ ap noBegin z)
-          ∙ sym (pick-true _ _ _ (eq-eqb _ _ (c .before .before .before .before .before .before .before .if1 .left)) ∙ pick-false _ _ _ spent),
+          ∙ sym (pick-true _ _ _ (eq-eqb _ _ (renews .if1 .left)) ∙ pick-false _ _ _ spent),
       n .1,
     )
 

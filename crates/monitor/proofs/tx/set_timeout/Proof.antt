@@ -12,9 +12,11 @@ put-party-requires c κs = search needs
 
 returns : tie.Need-returns
 returns c =
-    let a = c .before .before .before .before .args in
+    let at-party = c .before .before in
+    let start = at-party .before .before in
+    let a = start .args in
     let put = c .put-party .ensures in
-    (put .0 ∙ ap (λ (q : Party). withParty (view (a .s .now)) (a .p) (withTimeout q (a .t))) (c .before .before .party-at .ensures), put .1)
+    (put .0 ∙ ap (λ (q : Party). withParty (view (a .s .now)) (a .p) (withTimeout q (a .t))) (at-party .party-at .ensures), put .1)
 
 pub set-timeout-spec : {M : Type 1} → statement M
 set-timeout-spec = tie.close (tie.spec party-at-requires put-party-requires returns)

@@ -13,7 +13,10 @@ coded-requires c κs = search needs
 
 returns : tie.Need-returns
 unfolding beginOf
-returns c = (blank-told _ _ _ _ _ (c .before .before .state-after .ensures .0) (c .coded .ensures) (c .before .if1 .taken), c .before .before .before .before .pre .2)
+returns c =
+    let asked-state = c .before .before in
+    let start = asked-state .before .before in
+    (blank-told _ _ _ _ _ (asked-state .state-after .ensures .0) (c .coded .ensures) (c .before .if1 .taken), start .pre .2)
 
 last-tx-requires : tie.Need-last-tx-requires
 last-tx-requires c κs = search needs
@@ -24,9 +27,12 @@ coded-requires-2 c κs = search needs
 returns-2 : tie.Need-returns-2
 unfolding beginOf
 returns-2 c =
-    let s = c .before .before .before .before .before .before .before in
-    let spent = tx-spent (view (s .args .s .now)) _ (c .before .before .last-tx .ensures) (c .before .if2 .taken) in
-    (passed-told _ _ _ _ _ (c .before .before .before .before .before .state-after .ensures .0) _ (c .coded2 .ensures) (sym (pick-false _ _ _ spent)) (c .before .before .before .before .if1 .left), s .pre .2)
+    let read-last = c .before .before in
+    let allowed = read-last .before .before in
+    let asked-state = allowed .before in
+    let start = asked-state .before .before in
+    let spent = tx-spent (view (start .args .s .now)) _ (read-last .last-tx .ensures) (c .before .if2 .taken) in
+    (passed-told _ _ _ _ _ (asked-state .state-after .ensures .0) _ (c .coded2 .ensures) (sym (pick-false _ _ _ spent)) (allowed .if1 .left), start .pre .2)
 
 begin-tx-requires : tie.Need-begin-tx-requires
 begin-tx-requires c κs = search needs
@@ -40,12 +46,18 @@ coded-requires-3 c κs = search needs
 returns-3 : tie.Need-returns-3
 unfolding beginOf
 returns-3 c =
-    let a = c .before .before .before .before .before .before .before .before .before .before .before .args in
-    let e = c .before .before .before .before .before .before .before .before .before .state-after .ensures .0 in
+    let begun = c .before .before .before in
+    let number-left = begun .before .before in
+    let read-last = number-left .before in
+    let allowed = read-last .before .before in
+    let asked-state = allowed .before in
+    let start = asked-state .before .before in
+    let a = start .args in
+    let e = asked-state .state-after .ensures .0 in
     let n = c .before .enter .ensures in
-    let left = tx-left (view (a .s .now)) _ (c .before .before .before .before .before .before .last-tx .ensures) (c .before .before .before .before .before .if2 .left) in
-    let r = ap (λ (m : Monitor). ruled m txOk) (n .0 ∙ ap₂ (λ (m : Monitor) (s : ℕ). entered m (a .p) s) (c .before .before .before .begin-tx .ensures .0) e) in
-    (passed-told _ _ _ _ _ e _ (c .coded3 .ensures) (r ∙ sym (pick-true _ _ _ left)) (c .before .before .before .before .before .before .before .before .if1 .left), n .1)
+    let left = tx-left (view (a .s .now)) _ (read-last .last-tx .ensures) (number-left .if2 .left) in
+    let r = ap (λ (m : Monitor). ruled m txOk) (n .0 ∙ ap₂ (λ (m : Monitor) (s : ℕ). entered m (a .p) s) (begun .begin-tx .ensures .0) e) in
+    (passed-told _ _ _ _ _ e _ (c .coded3 .ensures) (r ∙ sym (pick-true _ _ _ left)) (allowed .if1 .left), n .1)
 
 pub tx-begin-spec : {M : Type 1} → statement M
 tx-begin-spec =

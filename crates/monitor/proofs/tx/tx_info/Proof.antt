@@ -24,8 +24,11 @@ coded-requires-2 c κs = search needs
 returns-2 : tie.Need-returns-2
 unfolding infoOf
 returns-2 c =
-    let none = eq-eqb _ _ (sym (c .before .before .tx-of .ensures) ∙ c .before .if2 .taken) in
-    passed-told _ _ _ _ _ (c .before .before .before .before .state-after .ensures .0) _ (c .coded2 .ensures) (sym (pick-true _ _ _ none)) (c .before .before .before .if1 .left)
+    let read-tx = c .before .before in
+    let allowed = read-tx .before in
+    let asked-state = allowed .before in
+    let none = eq-eqb _ _ (sym (read-tx .tx-of .ensures) ∙ c .before .if2 .taken) in
+    passed-told _ _ _ _ _ (asked-state .state-after .ensures .0) _ (c .coded2 .ensures) (sym (pick-true _ _ _ none)) (allowed .if1 .left)
 
 coded-requires-3 : tie.Need-coded-requires-3
 coded-requires-3 c κs = search needs
@@ -33,8 +36,11 @@ coded-requires-3 c κs = search needs
 returns-3 : tie.Need-returns-3
 unfolding infoOf
 returns-3 c =
-    let some = sym (ap (λ (t : ℕ). eqb t 0) (c .before .before .tx-of .ensures)) ∙ ne-eqb _ _ (c .before .if2 .left) in
-    passed-told _ _ _ _ _ (c .before .before .before .before .state-after .ensures .0) _ (c .coded3 .ensures) (sym (pick-false _ _ _ some)) (c .before .before .before .if1 .left)
+    let read-tx = c .before .before in
+    let allowed = read-tx .before in
+    let asked-state = allowed .before in
+    let some = sym (ap (λ (t : ℕ). eqb t 0) (read-tx .tx-of .ensures)) ∙ ne-eqb _ _ (c .before .if2 .left) in
+    passed-told _ _ _ _ _ (asked-state .state-after .ensures .0) _ (c .coded3 .ensures) (sym (pick-false _ _ _ some)) (allowed .if1 .left)
 
 pub tx-info-spec : {M : Type 1} → statement M
 tx-info-spec =

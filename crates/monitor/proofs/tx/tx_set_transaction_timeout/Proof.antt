@@ -13,14 +13,22 @@ coded-requires c κs = search needs
 
 returns : tie.Need-returns
 unfolding timeoutOf
-returns c = (blank-told _ _ _ _ _ (c .before .before .state-after .ensures .0) (c .coded .ensures) (c .before .if1 .taken), c .before .before .before .before .pre .2)
+returns c =
+    let asked-state = c .before .before in
+    let start = asked-state .before .before in
+    (blank-told _ _ _ _ _ (asked-state .state-after .ensures .0) (c .coded .ensures) (c .before .if1 .taken), start .pre .2)
 
 coded-requires-2 : tie.Need-coded-requires-2
 coded-requires-2 c κs = search needs
 
 returns-2 : tie.Need-returns-2
 unfolding timeoutOf
-returns-2 c = (passed-told _ _ _ _ _ (c .before .before .before .state-after .ensures .0) _ (c .coded2 .ensures) (sym (pick-false _ _ _ (lt-leb _ _ (c .before .if2 .taken)))) (c .before .before .if1 .left), c .before .before .before .before .before .pre .2)
+returns-2 c =
+    let allowed = c .before .before in
+    let asked-state = allowed .before in
+    let start = asked-state .before .before in
+    let bad = lt-leb _ _ (c .before .if2 .taken) in
+    (passed-told _ _ _ _ _ (asked-state .state-after .ensures .0) _ (c .coded2 .ensures) (sym (pick-false _ _ _ bad)) (allowed .if1 .left), start .pre .2)
 
 set-timeout-requires : tie.Need-set-timeout-requires
 set-timeout-requires c κs = search needs
@@ -31,9 +39,12 @@ coded-requires-3 c κs = search needs
 returns-3 : tie.Need-returns-3
 unfolding timeoutOf
 returns-3 c =
+    let in-range = c .before .before .before in
+    let allowed = in-range .before in
+    let asked-state = allowed .before in
     let n = c .before .set-timeout .ensures in
-    let r = ap (λ (m : Monitor). ruled m txOk) (n .0) ∙ sym (pick-true _ _ _ (le-leb _ _ (c .before .before .before .if2 .left))) in
-    (passed-told _ _ _ _ _ (c .before .before .before .before .before .state-after .ensures .0) _ (c .coded3 .ensures) r (c .before .before .before .before .if1 .left), n .1)
+    let r = ap (λ (m : Monitor). ruled m txOk) (n .0) ∙ sym (pick-true _ _ _ (le-leb _ _ (in-range .if2 .left))) in
+    (passed-told _ _ _ _ _ (asked-state .state-after .ensures .0) _ (c .coded3 .ensures) r (allowed .if1 .left), n .1)
 
 pub tx-set-transaction-timeout-spec : {M : Type 1} → statement M
 tx-set-transaction-timeout-spec =

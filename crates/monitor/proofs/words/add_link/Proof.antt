@@ -7,10 +7,13 @@ use Rattle.monitor.proofs.words.add_link.Tie as tie
 
 returns : tie.Need-returns
 returns c =
-    let a = c .before .before .before .before .before .before .args in
+    let read-last-link = c .before .before in
+    let counted = read-last-link .before .before in
+    let start = counted .before .before in
+    let a = start .args in
     let m = view (a .s .now) in
-    let i = c .before .before .before .before .count in
-    let d = c .before .before .last-link in
+    let i = counted .count in
+    let d = read-last-link .last-link in
     let ys = c .put-link .last .0 in
     let n = length-set ys 1 (d .result + 1) ∙ c .put-link .ensures .1 in (
       set-count-law (set ys 1 (d .result + 1)) (i .result + 1) n

@@ -7,13 +7,17 @@ use Rattle.monitor.proofs.words.put_party.Tie as tie
 
 returns : tie.Need-returns
 returns c =
-    let dh = c .before .before .high2 in
-    let dl = c .before .before .before .low2 in
-    let sh = c .before .before .before .before .high in
-    let sl = c .before .before .before .before .before .low in
-    let s = c .before .before .before .before .before .before in
-    let a = s .args in
-    put-party-law (a .s .now) (a .p) (a .q) (sl .result) (sh .result) (dl .result) (dh .result) (s .pre .1) (s .pre .0)
+    let deadline-high = c .before .before in
+    let deadline-low = deadline-high .before in
+    let services-high = deadline-low .before in
+    let services-low = services-high .before in
+    let start = services-low .before in
+    let dh = deadline-high .high2 in
+    let dl = deadline-low .low2 in
+    let sh = services-high .high in
+    let sl = services-low .low in
+    let a = start .args in
+    put-party-law (a .s .now) (a .p) (a .q) (sl .result) (sh .result) (dl .result) (dh .result) (start .pre .1) (start .pre .0)
     (whole (a .q .services) _ _ (sl .ensures) (sh .ensures)) (whole (a .q .deadline) _ _ (dl .ensures) (dh .ensures)) _ (c .store-party .ensures)
 
 pub put-party-spec : {M : Type 1} → statement M
