@@ -72,7 +72,10 @@ readParty xs p services deadline =
 
 -- ---- stored
 abbrev pub linkWords : Link → List ℕ
-linkWords l = l .number ∷ l .kind ∷ l .originator ∷ l .attached ∷ l .service ∷ l .tx ∷ l .state ∷ l .server ∷ l .first ∷ l .outcome ∷ l .ending ∷ l .sender ∷ l .granting ∷ l .disconnected ∷ getD (l .unread) 0 0 ∷ getD (l .unread) 1 0 ∷ getD (l .unread) 2 0 ∷ getD (l .unread) 3 0 ∷ l .filled ∷ []
+linkWords l =
+    l .number ∷ l .kind ∷ l .originator ∷ l .attached ∷ l .service ∷ l .tx ∷ l .state ∷ l .server ∷ l .first ∷ l .outcome ∷ l .ending
+    ∷ l .sender ∷ l .granting ∷ l .disconnected
+    ∷ getD (l .unread) 0 0 ∷ getD (l .unread) 1 0 ∷ getD (l .unread) 2 0 ∷ getD (l .unread) 3 0 ∷ l .filled ∷ []
 
 -- of a party, whose services and deadline are given by their halves
 abbrev pub partyWords : Party → ℕ → ℕ → ℕ → ℕ → List ℕ

@@ -6,9 +6,12 @@ use lib.ListN.{getD}
 use lib.Dec.{eqb, ltb, leb}
 use lib.IntN.{ℤ}
 use Rattle.rules.specs.Choice.{pick}
-use Rattle.rules.specs.Codes.{badArgument, notAllowedNow, noSuchEnd, notOffered, noRoomLeft, inTransaction, timedOut, nothingWaiting, noReplyYet, tpAccepted, tpeSvcFail, tpeSvcErr, tpevSvcFail, tpevSvcSucc, requestDispatched, receiverDispatched, senderDispatched, tpNoReply, tpNoTran, tpSendOnly, tpRecvOnly}
+use Rattle.rules.specs.Codes.{badArgument, notAllowedNow, noSuchEnd, notOffered, noRoomLeft, inTransaction, timedOut, nothingWaiting}
+use Rattle.rules.specs.Codes.{noReplyYet, tpAccepted, tpeSvcFail, tpeSvcErr, tpevSvcFail, tpevSvcSucc, requestDispatched, receiverDispatched}
+use Rattle.rules.specs.Codes.{senderDispatched, tpNoReply, tpNoTran, tpSendOnly, tpRecvOnly}
 use Rattle.rules.specs.Lists.{firstOf, anyOf}
-use Rattle.rules.specs.Record.{freshLink, isOpened, isRequest, isWaiting, isReturned, ownEnd, party, live, linkOf, serving, closed, newLink, working, withParty, replaced, changed, removed, added, valued, ask}
+use Rattle.rules.specs.Record.{freshLink, isOpened, isRequest, isWaiting, isReturned, ownEnd, party, live, linkOf, serving, closed, newLink}
+use Rattle.rules.specs.Record.{working, withParty, replaced, changed, removed, added, valued, ask}
 use Rattle.rules.specs.Transaction.{txOf, ended, expired}
 use Rattle.rules.specs.Services.{isService, offers}
 use Rattle.rules.specs.declared.Ruled.{Ruled}

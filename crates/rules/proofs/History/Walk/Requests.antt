@@ -10,10 +10,12 @@ use lib.ListN.{getD}
 use borrow.Author.Tests.{eqb-true, eqb-false, leb-true, ltb-true}
 use Rattle.rules.specs.Choice.{pick, same}
 use Rattle.rules.specs.Codes.{badArgument, notAllowedNow, noSuchEnd, notOffered, noRoomLeft, inTransaction, timedOut, nothingWaiting, noReplyYet}
-use Rattle.rules.specs.Record.{freshLink, isAttached, isRequest, isWaiting, isWorking, ownEnd, party, live, linkOf, withParty, replaced, changed, removed, added, closed, valued, serving, newLink, working}
+use Rattle.rules.specs.Record.{freshLink, isAttached, isRequest, isWaiting, isWorking, ownEnd, party, live, linkOf, withParty, replaced}
+use Rattle.rules.specs.Record.{changed, removed, added, closed, valued, serving, newLink, working}
 use Rattle.rules.specs.Transaction.{txOf, ended}
 use Rattle.rules.specs.Services.{isService}
-use Rattle.rules.specs.Requests.{noReply, noTran, recvOnly, linkTx, askLink, isBareNoReply, requestOf, connectOf, isIdle, fits, dispatched, nextWaiting, dispatchOf, requestEnd, outcomeCode, fetched, fetchOf, cancelled, cancelOf}
+use Rattle.rules.specs.Requests.{noReply, noTran, recvOnly, linkTx, askLink, isBareNoReply, requestOf, connectOf, isIdle, fits, dispatched}
+use Rattle.rules.specs.Requests.{nextWaiting, dispatchOf, requestEnd, outcomeCode, fetched, fetchOf, cancelled, cancelOf}
 use Rattle.rules.specs.History.{flag2}
 use Rattle.rules.specs.declared.Call.{Call}
 use Rattle.rules.specs.declared.Link.{Link}
@@ -24,7 +26,10 @@ use Rattle.rules.proofs.Logic.{byTest, test, not-both, pick-true, pick-
 use Rattle.rules.proofs.Fine.{noLink, txP, look, Frame, Fine}
 use Rattle.rules.proofs.Looks.{look-number, there, look-next, linkOf-look, txOf-txP, any-none}
 use Rattle.rules.proofs.Parties.{party-frame, live-owner, owned-none}
-use Rattle.rules.proofs.Changes.{first-fits, first-look, first-there, replaced-same, replaced-other, replaced-frame, changed-clock, changed-lastlink, changed-lasttx, changed-parties, changed-same, changed-other, changed-frame, removed-same, removed-other, removed-frame, removed-parties, removed-clock, removed-lastlink, removed-lasttx, added-new, added-other, added-frame}
+use Rattle.rules.proofs.Changes.{first-fits, first-look, first-there, replaced-same, replaced-other, replaced-frame, changed-clock}
+use Rattle.rules.proofs.Changes.{changed-lastlink, changed-lasttx, changed-parties, changed-same, changed-other, changed-frame, removed-same}
+use Rattle.rules.proofs.Changes.{removed-other, removed-frame, removed-parties, removed-clock, removed-lastlink, removed-lasttx, added-new}
+use Rattle.rules.proofs.Changes.{added-other, added-frame}
 use Rattle.rules.proofs.History.Tells.{Tell, nothing, finished}
 use Rattle.rules.proofs.History.Moves.{Left, Move}
 use Rattle.rules.proofs.History.Walk.Moved.{Moved, Own}
