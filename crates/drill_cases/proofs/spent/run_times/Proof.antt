@@ -26,7 +26,13 @@ loop-less : tie.Need-loop-less Inv-loop μ-loop
 loop-less c = search needs
 
 loop-again : tie.Need-loop-again Inv-loop μ-loop
-loop-again c = let k = c .before .before .before .before .list-piece .kept in let v = c .before .before .before .before .before .before .before .before .loop .inv in (k .1 .1 .1 .0 ∙ v .0, k .1 .1 .1 .1 .0 ∙ v .1)
+loop-again c =
+    let given-back = c .before .before in
+    let listed = given-back .before .before in
+    let lent = listed .before .before in
+    let k = listed .list-piece .kept in
+    let v = lent .before .before .loop .inv in
+    (k .1 .1 .1 .0 ∙ v .0, k .1 .1 .1 .1 .0 ∙ v .1)
 
 same-length : tie.Need-same-length Inv-loop μ-loop
 same-length c = c .before .loop .inv .0
