@@ -1,4 +1,5 @@
-// The numbers of calls and answers, by meaning: a name for each place that answers one, as the rules' specs/Codes has them.
+// The numbers of calls and answers, by meaning: a name for each place that answers one, as the rules' specs/Codes has them; 18,
+// the number reader's, has none there.
 
 // ---- TX (document 002)
 pub const TX_OK: i64 = 0;

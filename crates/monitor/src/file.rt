@@ -89,7 +89,8 @@ pub struct FileRan {
 // The calls of a piece of a file on a sound record, as many as there are answer places for; `last` says that the file ends with the piece.
 fn run_calls(s: &mut [u32; WORDS], input: &[u8], last: bool, answers: &mut [i64]) -> Passed
     requires { ⌜ (sound (view (now s)) ≡ true) × (length (now s) ≡ words) ⌝ }
-    ensures { λ r. ⌜ (passed (view (now (s .exit))) (r .code) (r .calls) (r .used) (now (answers .exit)) ≡ pieceRun (view (now (s .entry))) (now (input .entry)) last (now (answers .entry))) × (length (now (s .exit)) ≡ words) ⌝ }
+    ensures { λ r. ⌜ (passed (view (now (s .exit))) (r .code) (r .calls) (r .used) (now (answers .exit))
+        ≡ pieceRun (view (now (s .entry))) (now (input .entry)) last (now (answers .entry))) × (length (now (s .exit)) ≡ words) ⌝ }
 {
     let most = answers.len() / 6;
     let mut at = 0;
@@ -150,7 +151,8 @@ pub(crate) fn piece_on(
     answers: &mut [i64],
 ) -> Passed
     requires { ⌜ length (now s) ≡ words ⌝ }
-    ensures { λ r. ⌜ (passed (view (now (s .exit))) (r .code) (r .calls) (r .used) (now (answers .exit)) ≡ pieceOf (view (now (s .entry))) (now (input .entry)) last (now (answers .entry))) × (length (now (s .exit)) ≡ words) ⌝ }
+    ensures { λ r. ⌜ (passed (view (now (s .exit))) (r .code) (r .calls) (r .used) (now (answers .exit))
+        ≡ pieceOf (view (now (s .entry))) (now (input .entry)) last (now (answers .entry))) × (length (now (s .exit)) ≡ words) ⌝ }
 {
     let ok = is_sound_in(&*s);
     if !ok {
@@ -205,7 +207,8 @@ fn count_calls(input: &[u8]) -> usize
 // A whole file, on whatever record is lent.
 pub(crate) fn file_on(s: &mut [u32; WORDS], input: &[u8], answers: &mut [i64]) -> Passed
     requires { ⌜ length (now s) ≡ words ⌝ }
-    ensures { λ r. ⌜ (passed (view (now (s .exit))) (r .code) (r .calls) (r .used) (now (answers .exit)) ≡ fileOf (view (now (s .entry))) (now (input .entry)) (now (answers .entry))) × (length (now (s .exit)) ≡ words) ⌝ }
+    ensures { λ r. ⌜ (passed (view (now (s .exit))) (r .code) (r .calls) (r .used) (now (answers .exit))
+        ≡ fileOf (view (now (s .entry))) (now (input .entry)) (now (answers .entry))) × (length (now (s .exit)) ≡ words) ⌝ }
 {
     let whole = count_calls(input);
     if answers.len() / 6 < whole {

@@ -165,7 +165,8 @@ pub(crate) fn open_link(
     sender: u32,
 ) -> u32
     requires { ⌜ (p < 16) × (view (now s) .count < 32) × (view (now s) .lastlink < 60000) × (length (now s) ≡ words) ⌝ }
-    ensures { λ r. ⌜ (r ≡ view (now (s .entry)) .lastlink + 1) × (view (now (s .exit)) ≡ added (view (now (s .entry))) (newLink (view (now (s .entry)) .lastlink + 1) kind p attached a t c sender)) × (length (now (s .exit)) ≡ words) ⌝ }
+    ensures { λ r. ⌜ (r ≡ view (now (s .entry)) .lastlink + 1)
+        × (view (now (s .exit)) ≡ added (view (now (s .entry))) (newLink (view (now (s .entry)) .lastlink + 1) kind p attached a t c sender)) × (length (now (s .exit)) ≡ words) ⌝ }
 {
     let last = last_link(&*s);
     let d = last + 1;
@@ -279,7 +280,7 @@ pub(crate) fn dispatch_event(l: Link) -> u32
 }
 
 // The link l at the place i becomes working for party p.
-pub(crate) fn dispatch(s: &mut [u32; WORDS], p: usize, i: usize, l: Link) -> Told
+pub(crate) fn dispatch_at(s: &mut [u32; WORDS], p: usize, i: usize, l: Link) -> Told
     requires { ⌜ (p < 16) × (i < 32) × (length (now s) ≡ words) ⌝ }
     ensures { λ r. ⌜ (ruledBy r (view (now (s .exit))) ≡ dispatched (view (now (s .entry))) p i l) × (length (now (s .exit)) ≡ words) ⌝ }
 {
@@ -301,7 +302,7 @@ pub(crate) fn dispatch(s: &mut [u32; WORDS], p: usize, i: usize, l: Link) -> Tol
 }
 
 // Kind 14.
-pub(crate) fn take(s: &mut [u32; WORDS], p: usize) -> Told
+pub(crate) fn dispatch(s: &mut [u32; WORDS], p: usize) -> Told
     requires { ⌜ (p < 16) × (view (now s) .count ≤ 32) × (length (now s) ≡ words) ⌝ }
     ensures { λ r. ⌜ (ruledBy r (view (now (s .exit))) ≡ dispatchOf (view (now (s .entry))) p) × (length (now (s .exit)) ≡ words) ⌝ }
 {
@@ -313,7 +314,7 @@ pub(crate) fn take(s: &mut [u32; WORDS], p: usize) -> Told
     let len = count(&*s);
     if i < len {
         let l = link_at(&*s, i);
-        return dispatch(&mut *s, p, i, l);
+        return dispatch_at(&mut *s, p, i, l);
     }
     coded(codes::NOTHING_WAITING)
 }

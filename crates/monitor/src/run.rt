@@ -49,7 +49,8 @@ pub(crate) fn put(out: &mut [i64], at: usize, r: Answer)
 // n calls, one after the other.
 pub(crate) fn run(s: &mut [u32; WORDS], calls: &[u32], out: &mut [i64], n: usize)
     requires { ⌜ (sound (view (now s)) ≡ true) × (length (now s) ≡ words) × (n * 6 ≤ length (now calls)) × (n * 6 ≤ length (now out)) ⌝ }
-    ensures { λ _. ⌜ (view (now (s .exit)) ≡ ranOf n (view (now (s .entry))) (now (calls .entry))) × (now (out .exit) ≡ answersOf n (view (now (s .entry))) (now (calls .entry)) ++ drop (n * 6) (now (out .entry))) × (length (now (s .exit)) ≡ words) ⌝ }
+    ensures { λ _. ⌜ (view (now (s .exit)) ≡ ranOf n (view (now (s .entry))) (now (calls .entry)))
+        × (now (out .exit) ≡ answersOf n (view (now (s .entry))) (now (calls .entry)) ++ drop (n * 6) (now (out .entry))) × (length (now (s .exit)) ≡ words) ⌝ }
 {
     let mut i = 0;
     while i < n {

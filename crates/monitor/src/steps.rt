@@ -14,7 +14,7 @@ use super::conversations::tpdiscon;
 use super::conversations::tprecv;
 use super::conversations::tpsend;
 use super::links::coded;
-use super::requests::take;
+use super::requests::dispatch;
 use super::requests::tpacall;
 use super::requests::tpcancel;
 use super::requests::tpconnect;
@@ -60,7 +60,7 @@ pub(crate) fn rule(s: &mut [u32; WORDS], p: usize, k: u32, a: u32, b: u32, c: u3
         11 => tpunadvertise(&mut *s, p, a),
         12 => tpacall(&mut *s, p, a, b, c),
         13 => tpconnect(&mut *s, p, a, b, c),
-        14 => take(&mut *s, p),
+        14 => dispatch(&mut *s, p),
         15 => tpgetrply(&mut *s, p, a),
         16 => tpcancel(&mut *s, p, a),
         17 => tpsend(&mut *s, p, a, b, c),

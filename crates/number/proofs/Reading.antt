@@ -46,40 +46,40 @@ shifted-below bits low high l some h = ⊎-elim few many (below-or-not bits 7)
 -- ---- at the front of a list
 
 -- What reading the groups at the front can tell.
-pub data Told (most bits place : ℕ) (bytes : List ℕ) : Reading → Type 0 where
+pub data ReadAs (most bits place : ℕ) (bytes : List ℕ) : Reading → Type 0 where
   accepted : (value next : ℕ) → value < 2 ^ bits → next ≡ place + groupCount most bytes → 0 < groupCount most bytes
-      → groupCount most bytes ≤ length bytes → Told most bits place bytes (number value next)
-  cut : length bytes ≤ groupCount most bytes → Told most bits place bytes (refused 17)
-  malformed : Told most bits place bytes (refused 18)
+      → groupCount most bytes ≤ length bytes → ReadAs most bits place bytes (number value next)
+  cut : length bytes ≤ groupCount most bytes → ReadAs most bits place bytes (refused 17)
+  malformed : ReadAs most bits place bytes (refused 18)
 
 module _ (most bits place byte : ℕ) (bytes : List ℕ) where
-  told-last : byte < 128 → Told (suc most) bits place (byte ∷ bytes) (readGroups (suc most) bits place (byte ∷ bytes))
-  told-last h =
+  read-as-last : byte < 128 → ReadAs (suc most) bits place (byte ∷ bytes) (readGroups (suc most) bits place (byte ∷ bytes))
+  read-as-last h =
       let one = count-last most byte bytes h in
       ⊎-elim
       (λ k. rw (front-last most bits place byte bytes h k) (accepted byte (place + 1) k (omega arith) (omega arith) (omega arith)))
       (λ k. rw (front-large most bits place byte bytes h k) malformed)
       (below-or-not byte (2 ^ bits))
 
-  told-more : 128 ≤ byte → (r : Reading) → Told most (bits - 7) (place + 1) bytes r → Told (suc most) bits place (byte ∷ bytes) (continued (byte % 128) 128 r)
+  read-as-more : 128 ≤ byte → (r : Reading) → ReadAs most (bits - 7) (place + 1) bytes r → ReadAs (suc most) bits place (byte ∷ bytes) (continued (byte % 128) 128 r)
   unfolding continued
-  told-more h r (accepted zero next small end some few) = rw continued-zero malformed
-  told-more h r (accepted (suc high) next small end some few) =
+  read-as-more h r (accepted zero next small end some few) = rw continued-zero malformed
+  read-as-more h r (accepted (suc high) next small end some few) =
       let more = count-more most byte bytes h in
       rw (continued-high (byte % 128) 128 (suc high) next (omega arith)) (accepted _ next below (omega arith) (omega arith) (omega arith))
     where
       below : byte % 128 + suc high * 128 < 2 ^ bits
       below = shifted-below bits (byte % 128) (suc high) (omega arith) (omega arith) small
-  told-more h r (cut whole) = cut (omega (arith, count-more most byte bytes h))
-  told-more h r malformed = malformed
+  read-as-more h r (cut whole) = cut (omega (arith, count-more most byte bytes h))
+  read-as-more h r malformed = malformed
 
-pub told-front : (most bits place : ℕ) (bytes : List ℕ) → Told most bits place bytes (readGroups most bits place bytes)
+pub read-as-front : (most bits place : ℕ) (bytes : List ℕ) → ReadAs most bits place bytes (readGroups most bits place bytes)
 unfolding readGroups
-told-front zero bits place bytes = malformed
-told-front (suc most) bits place [] = cut (omega arith)
-told-front (suc most) bits place (byte ∷ bytes) =
-    ⊎-elim (told-last most bits place byte bytes)
-    (λ h. rw (front-more most bits place byte bytes h) (told-more most bits place byte bytes h _ (told-front most (bits - 7) (place + 1) bytes)))
+read-as-front zero bits place bytes = malformed
+read-as-front (suc most) bits place [] = cut (omega arith)
+read-as-front (suc most) bits place (byte ∷ bytes) =
+    ⊎-elim (read-as-last most bits place byte bytes)
+    (λ h. rw (front-more most bits place byte bytes h) (read-as-more most bits place byte bytes h _ (read-as-front most (bits - 7) (place + 1) bytes)))
     (below-or-not byte 128)
 
 module _ (most bits place byte : ℕ) (bytes : List ℕ) where
@@ -142,9 +142,9 @@ module _ (most bits : ℕ) (input : List ℕ) (place : ℕ) where
       ((value : ℕ) × (next : ℕ) × (readNumber most bits input place ≡ number value next))
       ⊎ ((readNumber most bits input place ≡ refused 17) ⊎ (readNumber most bits input place ≡ refused 18))
   unfolding readNumber
-  one-of-three = go _ refl (told-front most bits place (drop place input))
+  one-of-three = go _ refl (read-as-front most bits place (drop place input))
     where
-      go : (r : Reading) → readNumber most bits input place ≡ r → Told most bits place (drop place input) r
+      go : (r : Reading) → readNumber most bits input place ≡ r → ReadAs most bits place (drop place input) r
           → ((value : ℕ) × (next : ℕ) × (readNumber most bits input place ≡ number value next))
           ⊎ ((readNumber most bits input place ≡ refused 17) ⊎ (readNumber most bits input place ≡ refused 18))
       go r e (accepted value next small end some few) = inl (value, next, e)
@@ -154,9 +154,9 @@ module _ (most bits : ℕ) (input : List ℕ) (place : ℕ) where
   -- a number that is cut short goes on to the input's end
   pub cut-reaches-end : readNumber most bits input place ≡ refused 17 → length input ≤ numberEnd most input place
   unfolding readNumber numberEnd
-  cut-reaches-end e = go (subst (Told most bits place (drop place input)) e (told-front most bits place (drop place input)))
+  cut-reaches-end e = go (subst (ReadAs most bits place (drop place input)) e (read-as-front most bits place (drop place input)))
     where
-      go : Told most bits place (drop place input) (refused 17) → length input ≤ place + groupCount most (drop place input)
+      go : ReadAs most bits place (drop place input) (refused 17) → length input ≤ place + groupCount most (drop place input)
       go (cut whole) = omega (arith, length-drop place input)
 
   -- and then the input has no more bytes from the place on than a number may have
@@ -165,29 +165,29 @@ module _ (most bits : ℕ) (input : List ℕ) (place : ℕ) where
   cut-near-end e = omega (arith, cut-reaches-end e, groups-few most (drop place input) .1)
 
   module _ (value next : ℕ) (e : readNumber most bits input place ≡ number value next) where
-    told-number : Told most bits place (drop place input) (number value next)
+    read-number : ReadAs most bits place (drop place input) (number value next)
     unfolding readNumber
-    told-number = subst (Told most bits place (drop place input)) e (told-front most bits place (drop place input))
+    read-number = subst (ReadAs most bits place (drop place input)) e (read-as-front most bits place (drop place input))
 
     -- the value fits
     pub number-below : value < 2 ^ bits
-    number-below = go told-number
+    number-below = go read-number
       where
-        go : Told most bits place (drop place input) (number value next) → value < 2 ^ bits
+        go : ReadAs most bits place (drop place input) (number value next) → value < 2 ^ bits
         go (accepted v n small end some few) = small
 
     pub number-end : next ≡ numberEnd most input place
     unfolding numberEnd
-    number-end = go told-number
+    number-end = go read-number
       where
-        go : Told most bits place (drop place input) (number value next) → next ≡ place + groupCount most (drop place input)
+        go : ReadAs most bits place (drop place input) (number value next) → next ≡ place + groupCount most (drop place input)
         go (accepted v n small end some few) = end
 
     -- the next place is past this one
     pub number-after : place < next
-    number-after = go told-number
+    number-after = go read-number
       where
-        go : Told most bits place (drop place input) (number value next) → place < next
+        go : ReadAs most bits place (drop place input) (number value next) → place < next
         go (accepted v n small end some few) = omega arith
 
     -- at most by the most bytes
@@ -197,9 +197,9 @@ module _ (most bits : ℕ) (input : List ℕ) (place : ℕ) where
 
     -- and not past the input's end
     pub number-within : next ≤ length input
-    number-within = go told-number
+    number-within = go read-number
       where
-        go : Told most bits place (drop place input) (number value next) → next ≤ length input
+        go : ReadAs most bits place (drop place input) (number value next) → next ≤ length input
         go (accepted v n small end some few) = omega (arith, length-drop place input)
 
 pub drop-take : (place count : ℕ) (input : List ℕ) → drop place (take (place + count) input) ≡ take count (drop place input)

@@ -89,8 +89,8 @@ tpacall-requires c κs = search needs
 tpconnect-requires : tie.Need-tpconnect-requires
 tpconnect-requires c κs = search needs
 
-take-requires : tie.Need-take-requires
-take-requires c κs = search needs
+dispatch-requires : tie.Need-dispatch-requires
+dispatch-requires c κs = search needs
 
 tpgetrply-requires : tie.Need-tpgetrply-requires
 tpgetrply-requires c κs = search needs
@@ -200,7 +200,7 @@ returns-14 : tie.Need-returns-14
 unfolding ruleOf pick
 returns-14 c =
     let a = c .before .before .before .args in
-    (at (view (a .s .now)) (a .p) (a .a) (a .b) (a .c) (c .before .before .match .keys14) (c .take .ensures .0), c .take .ensures .1)
+    (at (view (a .s .now)) (a .p) (a .a) (a .b) (a .c) (c .before .before .match .keys14) (c .dispatch .ensures .0), c .dispatch .ensures .1)
 
 returns-15 : tie.Need-returns-15
 unfolding ruleOf pick
@@ -274,7 +274,7 @@ rule-spec =
     tpunadvertise-requires
     tpacall-requires
     tpconnect-requires
-    take-requires
+    dispatch-requires
     tpgetrply-requires
     tpcancel-requires
     tpsend-requires

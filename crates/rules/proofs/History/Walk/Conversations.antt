@@ -124,9 +124,9 @@ module _ (m : Monitor) (c : Call) (fine : Fine m) (timeless : isTimed (c .kind) 
       like-moved m c fine timeless f (notified (linkOf m (c .a))) k tpeEvent 1 0 nothing (says-notified c _ kinds refl refl refl)
       (quiet-move m c fine timeless f (notified (linkOf m (c .a))) k refl)
 
-  return-moved : hearsReturn (c .party) (linkOf m (c .a)) ≡ true → Moved m c (tellsReturn m (c .a) (linkOf m (c .a)))
+  hears-return-moved : hearsReturn (c .party) (linkOf m (c .a)) ≡ true → Moved m c (tellsReturn m (c .a) (linkOf m (c .a)))
   unfolding hearsReturn tellsReturn
-  return-moved e =
+  hears-return-moved e =
       let i = f .is in
       let o = originator-end (c .party) (linkOf m (c .a)) (and-l _ _ e) in
       let r : isReturned (look (c .a) (live m)) ≡ true =
@@ -149,7 +149,7 @@ send-moved m c fine pb k =
     let e′ : anyEnd (c .party) (look (c .a) (live m)) ≡ true = rw i at e in
     ask-moved (λ b. ask-moved (λ _.
     pick-moved (λ h. notified-moved m c fine (rw k) (rw k) f h) (λ _.
-    pick-moved (λ h. return-moved m c fine (rw k) (rw k) f (and-l _ _ h)) (λ _.
+    pick-moved (λ h. hears-return-moved m c fine (rw k) (rw k) f (and-l _ _ h)) (λ _.
     ask-moved (λ h. ask-moved (λ r.
     let l′ = withSent (linkOf m (c .a)) (c .b) (c .c) in
     let y = withSent-like (linkOf m (c .a)) (c .b) (c .c) b r in
@@ -206,7 +206,7 @@ receive-moved m c fine pb k =
     let e′ : anyEnd (c .party) (look (c .a) (live m)) ≡ true = rw i at e in
     ask-moved (λ _.
     pick-moved (λ h. notified-moved m c fine (rw k) (rw k) f h) (λ _.
-    pick-moved (λ h. return-moved m c fine (rw k) (rw k) f h) (λ _.
+    pick-moved (λ h. hears-return-moved m c fine (rw k) (rw k) f h) (λ _.
     ask-moved (λ _. ask-moved (λ _. pick-moved (λ _. given-moved m c fine k f e′) (λ _. oldest-moved m c fine k f e′))
     (λ _. refused nothingUnread refl fine))
     (λ _. refused notAllowedNow refl fine))))

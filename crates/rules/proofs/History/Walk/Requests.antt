@@ -169,9 +169,9 @@ module _ (m : Monitor) (c : Call) (fine : Fine m) (pb : c .party < 16) (k : c .k
   next : Link
   next = getD (live m) (nextWaiting m (c .party)) freshLink
 
-  take-moved′ : Moved m c (dispatched m (c .party) (nextWaiting m (c .party)) next)
+  dispatched-moved : Moved m c (dispatched m (c .party) (nextWaiting m (c .party)) next)
   unfolding dispatched next
-  take-moved′ =
+  dispatched-moved =
       let f = fits (party m (c .party)) in
       let x = serving (party m (c .party)) (next .number) in
       let m₁ = withParty m (c .party) x in
@@ -200,7 +200,7 @@ module _ (m : Monitor) (c : Call) (fine : Fine m) (pb : c .party < 16) (k : c .k
 pub dispatch-moved : (m : Monitor) (c : Call) → Fine m → c .party < 16 → c .kind ≡ 14 → Moved m c (dispatchOf m (c .party))
 unfolding dispatchOf next
 dispatch-moved m c fine pb k =
-    ask-moved (λ i. ask-moved (λ r. take-moved′ m c fine pb k i (ltb-true _ _ r))
+    ask-moved (λ i. ask-moved (λ r. dispatched-moved m c fine pb k i (ltb-true _ _ r))
     (λ _. refused nothingWaiting refl fine))
     (λ _. refused notAllowedNow refl fine)
 

@@ -1,4 +1,4 @@
--- Kinds 20 and 21: a party that has left makes the move `leaves`; so do a return and a fall.
+-- Kinds 20 and 21: a party that has left makes the move `leaves`; so do a return and a death.
 -- Assumes nothing.
 use mathlib.Core.Path.{_≡_, refl, sym, ap, _∙_}
 use mathlib.Core.Bool.{Bool, true, false, _||_}
