@@ -80,6 +80,7 @@ class Changes:
         if kind == "var" and (type in (NAT, EVENT) or type == EVENTS and under not in (self.definition.name, "∷")):
             yield from ((("var", v), None) for v, t in scope.items() if t == type and v != name)
             if type == EVENTS and name in scope:
+                yield from ((("op", "++", term, ("var", v)), None) for v, t in scope.items() if t == EVENTS and v != name)
                 yield from ((("op", "∷", ("var", v), term), None) for v in self.events)
                 yield ("var", "[]"), None
 
