@@ -5,6 +5,7 @@ ghost use lib.IntN.{natAbs, pos};
 ghost use lib.ListN.{length, drop, getD};
 ghost use lib.Seq.{sets};
 ghost use Rattle.listing.specs.Text.{decimal, field, lineOf, linesOf, refusalLine};
+use monitor::codes;
 
 // A number's decimal digits.
 fn put_digits(out: &mut [u8], at: usize, n: u64) -> usize
@@ -96,7 +97,7 @@ pub(crate) fn put_refusal(out: &mut [u8], at: usize, code: i64) -> usize
     ensures next { λ r. ⌜ r ≡ at + length (refusalLine code) ⌝ }
     ensures text { λ _. ⌜ now (out .exit) ≡ sets (now (out .entry)) at (refusalLine code) ⌝ }
 {
-    if code == 0 {
+    if code == codes::FILE_RUN {
         return at;
     }
     put_field(&mut *out, at, code, 10)

@@ -7,6 +7,7 @@ ghost use Rattle.monitor.specs.View.{view};
 ghost use Rattle.listing.specs.Turn.{turned, atFront, turnedOf};
 use super::piece::list_piece;
 use monitor::Store;
+use monitor::codes;
 
 // The lesser of two numbers.
 fn least(a: usize, b: usize) -> usize
@@ -40,7 +41,7 @@ fn keep_rest(buffer: &mut [u8], used: usize, count: usize) -> usize
 fn is_over(ended: bool, code: i64, left: usize) -> bool
     ensures { λ r. ⌜ r ≡ isOver ended code left ⌝ }
 {
-    if code == 0 {
+    if code == codes::FILE_RUN {
         if ended {
             return left == 0;
         }
