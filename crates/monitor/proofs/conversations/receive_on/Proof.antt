@@ -23,14 +23,14 @@ start c = known-end c .before .before
 abbrev called : tie.After-hears-disconnect → tie.Start
 called c = start (c .before .before)
 
-abbrev asked-cut : tie.After-hears-return → tie.After-hears-disconnect
-asked-cut c = c .before .before
+abbrev asked-disconnect : tie.After-hears-return → tie.After-hears-disconnect
+asked-disconnect c = c .before .before
 
 abbrev joined : tie.Then4 → tie.Else3
 joined c = c .before .before
 
 abbrev caller : tie.After-is-sender → tie.Start
-caller c = called (asked-cut (c .before .before))
+caller c = called (asked-disconnect (c .before .before))
 
 abbrev listening : tie.Else6 → tie.Else5
 listening c = c .before .before
@@ -51,19 +51,19 @@ timely c r = pick-true _ _ _ (known (known-end (c .before))) ∙ pick-true _ _ _
 abbrev hears : tie.After-hears-disconnect → Bool
 hears c = hearsDisconnect (called c .args .p) (called c .args .l)
 
-cut : (c : tie.Then3) (x r : Ruled) → asks (called (c .before)) (pick (hears (c .before)) x r) ≡ x
-cut c x r = timely (c .before .before) _ ∙ pick-true _ _ _ (sym (c .before .hears-disconnect .ensures) ∙ c .if3 .taken)
+disconnected : (c : tie.Then3) (x r : Ruled) → asks (called (c .before)) (pick (hears (c .before)) x r) ≡ x
+disconnected c x r = timely (c .before .before) _ ∙ pick-true _ _ _ (sym (c .before .hears-disconnect .ensures) ∙ c .if3 .taken)
 
 talks : (c : tie.Else3) (x r : Ruled) → asks (called (c .before)) (pick (hears (c .before)) x r) ≡ r
 talks c x r = timely (c .before .before) _ ∙ pick-false _ _ _ (sym (c .before .hears-disconnect .ensures) ∙ c .if3 .left)
 
 abbrev returned : tie.After-hears-return → Bool
-returned c = let a = called (asked-cut c) .args in hearsReturn (a .p) (a .l)
+returned c = let a = called (asked-disconnect c) .args in hearsReturn (a .p) (a .l)
 
 over : (c : tie.Then4) → returned (c .before) ≡ true
 over c = sym (c .before .hears-return .ensures) ∙ c .if4 .taken
 
-going : (c : tie.Else4) (x y r : Ruled) → let d = asked-cut (c .before) in asks (called d) (pick (hears d) x (pick (returned (c .before)) y r)) ≡ r
+going : (c : tie.Else4) (x y r : Ruled) → let d = asked-disconnect (c .before) in asks (called d) (pick (hears d) x (pick (returned (c .before)) y r)) ≡ r
 going c x y r = talks (c .before .before) _ _ ∙ pick-false _ _ _ (sym (c .before .hears-return .ensures) ∙ c .if4 .left)
 
 -- the party listens: the other end has the right to send
@@ -101,7 +101,7 @@ tell-disconnect-requires c κs = search needs
 
 returns-3 : tie.Need-returns-3
 unfolding receiveOn
-returns-3 c = (c .tell-disconnect .ensures .0 ∙ sym (cut (c .before .before) _ _), c .tell-disconnect .ensures .1)
+returns-3 c = (c .tell-disconnect .ensures .0 ∙ sym (disconnected (c .before .before) _ _), c .tell-disconnect .ensures .1)
 
 hears-return-requires : tie.Need-hears-return-requires
 hears-return-requires c κs = search needs

@@ -24,8 +24,8 @@ start c = let good-flag = c .before .before in good-flag .before .before .before
 abbrev asked-late : tie.After-hears-disconnect → tie.After-is-expired
 asked-late c = c .before .before
 
-abbrev asked-cut : tie.After-hears-return → tie.After-hears-disconnect
-asked-cut c = c .before .before
+abbrev asked-disconnect : tie.After-hears-return → tie.After-hears-disconnect
+asked-disconnect c = c .before .before
 
 abbrev asked-return : tie.Else5 → tie.After-hears-return
 asked-return c = c .before .before
@@ -58,14 +58,14 @@ timely c r = flagged (c .before .before .before) _ ∙ pick-true _ _ _ (ap not (
 abbrev hears : tie.After-hears-disconnect → Bool
 hears c = hearsDisconnect (called c .args .p) (called c .args .l)
 
-cut : (c : tie.Then4) (x r : Ruled) → asks (called (c .before)) (pick (hears (c .before)) x r) ≡ x
-cut c x r = timely (c .before .before) _ ∙ pick-true _ _ _ (sym (c .before .hears-disconnect .ensures) ∙ c .if4 .taken)
+disconnected : (c : tie.Then4) (x r : Ruled) → asks (called (c .before)) (pick (hears (c .before)) x r) ≡ x
+disconnected c x r = timely (c .before .before) _ ∙ pick-true _ _ _ (sym (c .before .hears-disconnect .ensures) ∙ c .if4 .taken)
 
 talks : (c : tie.Else4) (x r : Ruled) → asks (called (c .before)) (pick (hears (c .before)) x r) ≡ r
 talks c x r = timely (c .before .before) _ ∙ pick-false _ _ _ (sym (c .before .hears-disconnect .ensures) ∙ c .if4 .left)
 
 abbrev fails : tie.After-hears-return → Bool
-fails c = let a = called (asked-cut c) .args in hearsReturn (a .p) (a .l) && not (eqb (a .l .outcome) tpevSvcSucc)
+fails c = let a = called (asked-disconnect c) .args in hearsReturn (a .p) (a .l) && not (eqb (a .l .outcome) tpevSvcSucc)
 
 failed : (c : tie.Then5) → fails (c .before .before) ≡ true
 failed c = rw (c .before .before .hears-return .ensures) at (c .if5 .taken)
@@ -111,7 +111,7 @@ tell-disconnect-requires c κs = search needs
 
 returns-4 : tie.Need-returns-4
 unfolding sendOn
-returns-4 c = (c .tell-disconnect .ensures .0 ∙ sym (cut (c .before .before) _ _), c .tell-disconnect .ensures .1)
+returns-4 c = (c .tell-disconnect .ensures .0 ∙ sym (disconnected (c .before .before) _ _), c .tell-disconnect .ensures .1)
 
 hears-return-requires : tie.Need-hears-return-requires
 hears-return-requires c κs = search needs
@@ -164,7 +164,7 @@ put-link-requires c κs =
     let room = c .before .before in
     let is-free = room .before .before in
     let no-fail = is-free .before .before .before in
-    let s = called (asked-cut (asked-return no-fail)) in
+    let s = called (asked-disconnect (asked-return no-fail)) in
     (omega (arith, s .pre .0, s .pre .3), s .pre .1)
 
 accept-requires : tie.Need-accept-requires
