@@ -51,7 +51,7 @@ early =
     ∷ row 6 0 txCommit 0 0 0 (negsuc 1) 0 0 0 0 0
     ∷ []
 
--- the server sends first, and falls with the turn
+-- the server sends first, and dies with the turn
 abbrev pub serverFirst : List Row
 serverFirst =
     row 1 0 txOpen 0 0 0 (pos 0) 0 0 0 0 0
@@ -200,7 +200,7 @@ spoilt =
     ∷ breaks commit (asked 12 kindField tpdiscon turns)
     -- committed after a disconnect
     ∷ breaks commit (coded 15 (pos 0) early)
-    -- committed after the fall of the server
+    -- committed after the death of the server
     ∷ breaks commit (coded 12 (pos 0) serverFirst)
     -- rolled back for a disconnect outside the transaction
     ∷ breaks commit (coded 21 (negsuc 1) apart)

@@ -24,7 +24,7 @@ deadline =
     ∷ row 41 0 txCommit 0 0 0 (negsuc 1) 0 0 0 0 0
     ∷ []
 
--- the timeout is the one at the start: a later one, a close and a fall take it away
+-- the timeout is the one at the start: a later one, a close and a death take it away
 abbrev pub timeouts : List Row
 timeouts =
     row 1 0 txOpen 0 0 0 (pos 0) 0 0 0 0 0
@@ -137,7 +137,7 @@ spoilt =
     ∷ breaks commit (coded 7 (negsuc 1) timeouts)
     -- without the close the timeout of 5 stands, and 200 is too late
     ∷ breaks commit (without 8 timeouts)
-    -- without the fall the timeout of 5 stands, and 300 is too late
+    -- without the death the timeout of 5 stands, and 300 is too late
     ∷ breaks commit (without 13 timeouts)
     -- the second of the chain is rolled back in time
     ∷ breaks commit (coded 7 (negsuc 1) chained)

@@ -131,7 +131,7 @@ failedReturnMarksNothing =
     ∷ row 0 0 txCommit 0 0 0 (pos 0) 0 0 0 0 0
     ∷ []
 
--- a party that falls leaves its served link as by success: committed after the fall
+-- a party that dies leaves its served link as by success: committed after its death
 abbrev pub deathMarksNothing : List Row
 deathMarksNothing =
     row 0 0 txOpen 0 0 0 (pos 0) 0 0 0 0 0

@@ -67,7 +67,7 @@ negligent =
     ∷ row 7 0 txCommit 0 0 0 (negsuc 1) 0 0 0 0 0
     ∷ []
 
--- a server falls; the owner falls in its next transaction, and begins anew
+-- a server dies; the owner dies in its next transaction, and begins anew
 abbrev pub dying : List Row
 dying =
     row 1 0 txOpen 0 0 0 (pos 0) 0 0 0 0 0
@@ -194,11 +194,11 @@ spoilt =
     ∷ breaks commit (showing 6 valueField 8 failing)
     -- committed after a return that left a request open
     ∷ breaks commit (coded 13 (pos 0) negligent)
-    -- committed after the fall of a server
+    -- committed after the death of a server
     ∷ breaks commit (coded 8 (pos 0) dying)
-    -- rolled back, though the fall ended no service
+    -- rolled back, though the death ended no service
     ∷ breaks commit (showing 6 valueField 0 dying)
-    -- rolled back for the work that the owner left behind as it fell
+    -- rolled back for the work that the owner left behind as it died
     ∷ breaks commit (coded 18 (negsuc 1) dying)
     -- committed with a request that nobody has taken
     ∷ breaks commit (coded 5 (pos 0) unfinished)
@@ -229,6 +229,6 @@ harmless =
     ∷ asked 7 partyField 0 nested
     -- a commit that is not to be is answered by some other number
     ∷ coded 8 (pos 22) failing
-    -- a fall without a value ends the service, and not badly
+    -- a death without a value ends the service, and not badly
     ∷ coded 8 (pos 0) (showing 6 valueField 0 dying)
     ∷ []
