@@ -1,9 +1,8 @@
 -- The questions before a new link, by the number of the first "no", which is 0 where there is none.
 -- Assumes nothing.
-use Prim.Native.Nat.{ℕ, suc, _<_}
+use Prim.Native.Nat.{ℕ, _<_}
 use mathlib.Core.Path.{_≡_, refl, ap, sym, _∙_}
 use mathlib.Core.Bool.{Bool, true, false, not}
-use native.Mathlib.Omega.{arith}
 use borrow.Author.Tests.{ltb-true}
 use lib.Dec.{ltb}
 use lib.IntN.{ℤ, pos}
@@ -11,29 +10,30 @@ use mir.Syntax.{w64}
 use mir.Val.{toZ, ofZ}
 use Rattle.rules.specs.Choice.{pick}
 use Rattle.rules.specs.Lists.{anyOf}
-use Rattle.rules.specs.Codes.{badArgument}
+use Rattle.rules.specs.Codes.{badArgument, notAllowedNow, notOffered, noRoomLeft, timedOut}
 use Rattle.rules.specs.Record.{ruled, valued, ask}
 use Rattle.rules.specs.Requests.{askLink, linkLeft}
 use Rattle.rules.specs.Services.{offers}
 use Rattle.rules.specs.Transaction.{ended, expired}
 use Rattle.rules.specs.declared.Monitor.{Monitor}
 use Rattle.rules.specs.declared.Ruled.{Ruled}
+use Rattle.rules.proofs.Codes.{codes-differ}
 use Rattle.rules.proofs.Logic.{pick-true, pick-false, and-l, and-r}
 use Rattle.monitor.specs.declared.Told.{Told}
 use Rattle.monitor.specs.View.{ruledBy, toldCode}
 use Rattle.monitor.proofs.Telling.{code-told}
 
 -- one question: a "yes" leaves those after it, and a "no" whatever is after it
-passes : (m : Monitor) (q : Bool) (n : ℕ) (x : Ruled) → ask m q (pos (suc n)) x .code ≡ pos 0 → (q ≡ true) × (x .code ≡ pos 0)
+passes : (m : Monitor) (q : Bool) (z : ℤ) (x : Ruled) → (z ≡ pos 0 → ⊥) → ask m q z x .code ≡ pos 0 → (q ≡ true) × (x .code ≡ pos 0)
 unfolding pick
-passes m true n x e = (refl, e)
-passes m false n x e = absurd (let z : _≡_ {A = ℕ} 0 1 = cc in omega arith)
+passes m true z x n e = (refl, e)
+passes m false z x n e = absurd (n e)
 
-stops : (m : Monitor) (q : Bool) (n : ℕ) (x y : Ruled) → ((x .code ≡ pos 0 → ⊥) → y ≡ ruled m (x .code))
-    → (ask m q (pos (suc n)) x .code ≡ pos 0 → ⊥) → ask m q (pos (suc n)) y ≡ ruled m (ask m q (pos (suc n)) x .code)
+stops : (m : Monitor) (q : Bool) (z : ℤ) (x y : Ruled) → ((x .code ≡ pos 0 → ⊥) → y ≡ ruled m (x .code))
+    → (ask m q z x .code ≡ pos 0 → ⊥) → ask m q z y ≡ ruled m (ask m q z x .code)
 unfolding pick
-stops m true n x y k h = k h
-stops m false n x y k h = refl
+stops m true z x y k h = k h
+stops m false z x y k h = refl
 
 -- all of them: the code, of 64 bits, with which a link of the transaction t to service a is answered
 abbrev pub Asked : Monitor → ℕ → ℕ → ℤ → Type 0
@@ -46,10 +46,10 @@ module _ (m : Monitor) (t a : ℕ) {code : ℤ} (e : Asked m t a code) where
   pub all-pass : ofZ w64 code ≡ 0 → (m .count < 32) × (m .lastlink < 60000) × ((rest : Ruled) → askLink m t a rest ≡ rest)
   unfolding askLink
   all-pass h =
-      let e1 = passes m (not (ended m t)) 22 _ (sym (e .0) ∙ sym (e .1) ∙ ap (toZ w64) h) in
-      let e2 = passes m (not (expired m t)) 27 _ (e1 .1) in
-      let e3 = passes m (anyOf (offers a) (m .parties)) 24 _ (e2 .1) in
-      let e4 = passes m (linkLeft m) 25 _ (e3 .1) in
+      let e1 = passes m (not (ended m t)) notAllowedNow _ (codes-differ _ _ refl) (sym (e .0) ∙ sym (e .1) ∙ ap (toZ w64) h) in
+      let e2 = passes m (not (expired m t)) timedOut _ (codes-differ _ _ refl) (e1 .1) in
+      let e3 = passes m (anyOf (offers a) (m .parties)) notOffered _ (codes-differ _ _ refl) (e2 .1) in
+      let e4 = passes m (linkLeft m) noRoomLeft _ (codes-differ _ _ refl) (e3 .1) in
       let few = ltb-true _ _ (and-l (ltb (m .count) 32) _ (e4 .0)) in
       let early = ltb-true _ _ (and-r (ltb (m .count) 32) _ (e4 .0)) in
       (few, early, λ rest. pick-true _ _ _ (e1 .0) ∙ pick-true _ _ _ (e2 .0) ∙ pick-true _ _ _ (e3 .0) ∙ pick-true _ _ _ (e4 .0))
@@ -57,9 +57,9 @@ module _ (m : Monitor) (t a : ℕ) {code : ℤ} (e : Asked m t a code) where
   one-stops : {r : Told} → (ofZ w64 code ≡ 0 → ⊥) → r ≡ toldCode (toZ w64 (ofZ w64 code)) → (rest : Ruled) → ruledBy r m ≡ askLink m t a rest
   unfolding askLink
   one-stops h r rest =
-      let k4 = stops m (linkLeft m) 25 _ rest (λ n. absurd (n refl)) in
-      let k3 = stops m (anyOf (offers a) (m .parties)) 24 _ _ k4 in
-      let k = stops m (not (ended m t)) 22 _ _ (stops m (not (expired m t)) 27 _ _ k3) in
+      let k4 = stops m (linkLeft m) noRoomLeft _ rest (λ n. absurd (n refl)) in
+      let k3 = stops m (anyOf (offers a) (m .parties)) notOffered _ _ k4 in
+      let k = stops m (not (ended m t)) notAllowedNow _ _ (stops m (not (expired m t)) timedOut _ _ k3) in
       code-told m r ∙ ap (ruled m) (e .1 ∙ e .0) ∙ sym (k (λ n. h (ap (ofZ w64) (e .0 ∙ n))))
 
 -- ---- a rule that asks q first, of the service and the flags, and then all of those
