@@ -16,7 +16,6 @@ pub mod Served
 pub mod Sets
 pub mod Steady
 pub mod Sweep
-pub mod Table
 pub mod Talking
 pub mod Telling
 pub mod Tokens
