@@ -1,5 +1,6 @@
 -- The examples that document 01 marks, in one table: each is read as it says, and each number among them is written so.
 -- One test is computed over the whole table, and one lemma turns it into the two facts of each entry.
+-- `rules` has a law of such tables (its proofs/Tables); that `number` has its own is because the two share no crate.
 -- Assumes nothing.
 use Prim.Native.Nat.{ℕ, zero, suc, _<_}
 use mathlib.Core.Path.{_≡_, refl, ap, ap₂}
