@@ -120,6 +120,15 @@ pub fn stray_service() -> Monitor {
     m
 }
 
+// The request that party 1 served for party 2 is of transaction 2, which has ended.
+pub fn stray_reply() -> Monitor {
+    let mut m = base();
+    let mut l = returned();
+    l.tx = 2;
+    m.links[2] = l;
+    m
+}
+
 // 32 waiting links, numbered 1 to 32.
 pub fn full() -> Monitor {
     let mut m = base();

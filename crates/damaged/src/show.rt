@@ -1,6 +1,7 @@
 // What the monitor answers on a record, in a line.
 use super::alike::same;
 use super::records::base;
+use super::records::stray_reply;
 use super::records::stray_request;
 use super::records::stray_service;
 use super::stored::stored;
@@ -159,4 +160,23 @@ pub fn commits() {
         1,
         20,
     );
+}
+
+// A sound record that no list of calls leads to: the end of a transaction leaves no open request end.
+pub fn replies() {
+    let record = stray_reply();
+    let m = stored(record);
+    let fetch = Call {
+        clock: 7,
+        party: 2,
+        kind: 15,
+        a: 0,
+        b: 1,
+        c: 0,
+    };
+    let s = monitor::step(m, fetch);
+    let r = s.answer;
+    write(b"a returned request of a transaction that has ended: whichever reply is there ");
+    show_code(r.code);
+    write(b"\n");
 }

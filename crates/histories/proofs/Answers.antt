@@ -17,7 +17,8 @@ use Rattle.rules.specs.States.{stateOf, nextOf, inState, entered}
 use Rattle.rules.specs.Tx.{openOf, closeOf, beginOf, goOn, commitCode, commitOf, rollbackOf, infoOf, commitReturnOf, controlOf, timeoutOf}
 use Rattle.rules.specs.Services.{inSet, offers, countTo, offered, withService, offersNow, advertiseOf, unadvertiseOf}
 use Rattle.rules.specs.Requests.{linkTx, askLink, requestOf, connectOf, isIdle, fits, dispatchEvent, dispatched}
-use Rattle.rules.specs.Requests.{dispatchOf, requestEnd, outcomeCode, fetched, fetchOf, cancelled, cancelOf}
+use Rattle.rules.specs.Requests.{dispatchOf}
+use Rattle.rules.specs.Replies.{requestEnd, outcomeCode, fetched, fetchOne, expiredEnd, repliedEnd, fetchAny, fetchOf, cancelled, cancelOf}
 use Rattle.rules.specs.Conversations.{originatorEnd, serverEnd, anyEnd, hearsDisconnect, hearsReturn, endSide, isSender, tellsDisconnect}
 use Rattle.rules.specs.Conversations.{tellsReturn, sendOn, sendOf, carriesGrant, received, receiveOn, receiveOf, disconnectedAt, disconnectOf}
 use Rattle.rules.specs.Return.{plainOutcome, outcomeOf, unreadAfter, closeEnd, rollbackOnlyBy, closeOwn, endOwn, rollbackOnlyServed}
@@ -54,8 +55,8 @@ pub real-answered : (k : ℕ) → k < length real → Answered (getD real k [])
 unfolding every right samePlaces pick same noBegin firstOf anyOf collect blanks numbered owns ownEnd linkOf changed goneOf removed servedTx txOf ended
     expired isOwner rollbackOnlyIn deadlineOf beginTx orphaned endOf endTx isOpenOf canCommit stateOf nextOf inState entered openOf closeOf beginOf
     goOn commitCode commitOf rollbackOf infoOf commitReturnOf controlOf timeoutOf inSet offers countTo offered withService offersNow advertiseOf
-    unadvertiseOf linkTx askLink requestOf connectOf isIdle fits dispatchEvent dispatched dispatchOf requestEnd outcomeCode fetched fetchOf cancelled
-    cancelOf originatorEnd serverEnd anyEnd hearsDisconnect hearsReturn endSide isSender tellsDisconnect tellsReturn sendOn sendOf carriesGrant
+    unadvertiseOf linkTx askLink requestOf connectOf isIdle fits dispatchEvent dispatched dispatchOf requestEnd outcomeCode fetched fetchOne expiredEnd repliedEnd fetchAny
+    fetchOf cancelled cancelOf originatorEnd serverEnd anyEnd hearsDisconnect hearsReturn endSide isSender tellsDisconnect tellsReturn sendOn sendOf carriesGrant
     received receiveOn receiveOf disconnectedAt disconnectOf plainOutcome outcomeOf unreadAfter closeEnd rollbackOnlyBy closeOwn endOwn
     rollbackOnlyServed servesNone endingOf handBack leave returnWith returnOf diedOut terminateOf linksGood worksFor partyGood partiesGood sound
     ruleOf laterOf answeredTo turnedDown callOf callAt Run.placesOf ranOf answersOf listOf

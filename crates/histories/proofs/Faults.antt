@@ -197,6 +197,34 @@ fetchLeavesLink =
     ∷ row 0 0 txCommit 0 0 0 (negsuc 1) 0 0 0 0 0
     ∷ []
 
+-- a fetch of whichever reply has the value 0: committed, and no fetch names the request
+abbrev pub anyFetchNamesNoLink : List Row
+anyFetchNamesNoLink =
+    row 0 0 txOpen 0 0 0 (pos 0) 0 0 0 0 0
+    ∷ row 0 1 txOpen 0 0 0 (pos 0) 0 0 0 0 0
+    ∷ row 0 1 tpadvertise 7 0 0 (pos 0) 1 0 0 0 0
+    ∷ row 0 0 txBegin 0 0 0 (pos 0) 0 0 0 0 1
+    ∷ row 0 0 tpacall 7 0 0 (pos 0) 1 0 0 0 1
+    ∷ row 0 1 dispatch 0 0 0 (pos 0) 1 64 0 7 1
+    ∷ row 0 1 tpreturn 1 0 0 (pos 0) 8 0 0 0 0
+    ∷ row 0 0 tpgetrply 0 1 0 (pos 0) 0 0 0 0 1
+    ∷ row 0 0 txCommit 0 0 0 (pos 0) 0 0 0 0 0
+    ∷ []
+
+-- a link stays whose reply was fetched as whichever is there: rolled back with nothing against it
+abbrev pub anyFetchLeavesLink : List Row
+anyFetchLeavesLink =
+    row 0 0 txOpen 0 0 0 (pos 0) 0 0 0 0 0
+    ∷ row 0 1 txOpen 0 0 0 (pos 0) 0 0 0 0 0
+    ∷ row 0 1 tpadvertise 7 0 0 (pos 0) 1 0 0 0 0
+    ∷ row 0 0 txBegin 0 0 0 (pos 0) 0 0 0 0 1
+    ∷ row 0 0 tpacall 7 0 0 (pos 0) 1 0 0 0 1
+    ∷ row 0 1 dispatch 0 0 0 (pos 0) 1 64 0 7 1
+    ∷ row 0 1 tpreturn 1 0 0 (pos 0) 8 0 0 0 0
+    ∷ row 0 0 tpgetrply 0 1 0 (pos 0) 1 0 0 0 1
+    ∷ row 0 0 txCommit 0 0 0 (negsuc 1) 0 0 0 0 0
+    ∷ []
+
 -- a new link does not raise the last link number: two conversations are link 1, and both originators send on it.
 -- Only a lent list shows it: the record is not sound after the first link, and single calls are answered 19 from there
 abbrev pub linkNumbersReused : List Row
@@ -262,6 +290,8 @@ faulty =
     ∷ breaks commit successWithOpenEnds
     ∷ breaks commit earlyFetchRemovesLink
     ∷ breaks commit fetchLeavesLink
+    ∷ breaks commit anyFetchNamesNoLink
+    ∷ breaks commit anyFetchLeavesLink
     ∷ breaks sender linkNumbersReused
     ∷ breaks commit transactionNumbersReused
     ∷ breaks sender newEndSendsEarly

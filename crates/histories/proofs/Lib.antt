@@ -3,6 +3,7 @@ pub mod Deaths
 pub mod Conversations
 pub mod Deadlines
 pub mod Services
+pub mod Replies
 pub mod Owners
 pub mod Faults
 pub mod Verdicts

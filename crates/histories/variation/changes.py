@@ -8,7 +8,7 @@ BUILT_IN = {
 }
 # the fields that the statement reads; each is exchanged for the others of its record
 FIELDS = {"call": ["clock", "party", "kind", "a", "b"], "answer": ["value", "event", "tx"]}
-ALIKE = {"accepted": "past21", "past21": "accepted", "withValue": "withEvent", "withEvent": "withValue"}
+ALIKE = {"accepted": "past21", "past21": "accepted", "replied": "accepted", "withValue": "withEvent", "withEvent": "withValue"}
 OTHER_SIGN = {"&&": "||", "||": "&&"}
 
 

@@ -67,6 +67,14 @@ module _ (f : Link → Bool) (xs : List ℕ) {len : ℕ} (e : len ≡ view xs .c
       let low = first-within a (live (view xs)) in
       record { inside = omega arith; long = search-links .long; next = search-links .next; none = first-past f a fails (live (view xs)) p }
 
+-- what was found, the place i, says whether one passes: past the n links none does, and among them one does
+module _ (xs : List ℕ) (f : Link → Bool) {i n : ℕ} (e : i ≡ firstOf f (live (view xs))) (h : view xs .count ≤ 32) (g : n ≡ view xs .count) where
+  pub none-passes : n ≤ i → anyOf f (live (view xs)) ≡ false
+  none-passes k = let l = live-long xs h in any-first f (live (view xs)) ∙ le-ltb (firstOf f (live (view xs))) (length (live (view xs))) (omega arith)
+
+  pub one-passes : i < n → anyOf f (live (view xs)) ≡ true
+  one-passes k = let l = live-long xs h in any-first f (live (view xs)) ∙ lt-ltb (firstOf f (live (view xs))) (length (live (view xs))) (omega arith)
+
 -- ---- over the parties
 abbrev pub PartySearch : (Party → Bool) → List ℕ → ℕ → Type 0
 PartySearch f xs i = Search f (view xs .parties) (party (view xs)) 16 i

@@ -11,7 +11,7 @@ use Rattle.rules.specs.declared.Monitor.{Monitor}
 use Rattle.rules.specs.declared.Ruled.{Ruled}
 use Rattle.rules.specs.Codes.{noSuchEnd}
 use Rattle.rules.specs.Record.{ownEnd, placeOf, linkOf, replaced, changed, ruled, ask}
-use Rattle.rules.specs.Requests.{requestEnd}
+use Rattle.rules.specs.Replies.{requestEnd}
 use Rattle.rules.specs.Conversations.{originatorEnd, serverEnd, anyEnd}
 use Rattle.monitor.specs.declared.Told.{Told}
 use Rattle.monitor.specs.View.{view, linkIn, ruledBy, toldCode}

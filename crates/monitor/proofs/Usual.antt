@@ -37,7 +37,9 @@ pub use Rattle.rules.specs.Services.{isService}
 unfoldable pub use Rattle.rules.specs.Services.{inSet, offers, withService, offersNow, advertiseOf, unadvertiseOf}
 pub use Rattle.rules.specs.Requests.{connectFlags}
 unfoldable pub use Rattle.rules.specs.Requests.{linkTx, askLink, requestOf, connectOf, isIdle, fits, dispatchEvent, dispatched}
-unfoldable pub use Rattle.rules.specs.Requests.{dispatchOf, requestEnd, outcomeCode, fetched, fetchOf, cancelled, cancelOf}
+unfoldable pub use Rattle.rules.specs.Requests.{dispatchOf}
+unfoldable pub use Rattle.rules.specs.Replies.{requestEnd, outcomeCode, fetched, fetchOne, expiredEnd, repliedEnd, fetchAny, fetchOf}
+unfoldable pub use Rattle.rules.specs.Replies.{cancelled, cancelOf}
 unfoldable pub use Rattle.rules.specs.Conversations.{originatorEnd, serverEnd, anyEnd, hearsDisconnect, hearsReturn, endSide}
 unfoldable pub use Rattle.rules.specs.Conversations.{isSender, tellsDisconnect, tellsReturn, sendOn, sendOf, carriesGrant, received}
 unfoldable pub use Rattle.rules.specs.Conversations.{receiveOn, receiveOf, disconnectedAt, disconnectOf}

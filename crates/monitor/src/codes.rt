@@ -96,6 +96,9 @@ pub const TPSENDONLY: u32 = 4;
 
 pub const TPRECVONLY: u32 = 8;
 
+// ---- flag of a fetch: whichever reply is there
+pub const TPGETANY: u32 = 1;
+
 // ---- how a service means to return
 pub const TPSUCCESS: u32 = 1;
 

@@ -7,6 +7,7 @@ mod equality;
 mod file;
 mod fresh;
 mod links;
+mod replies;
 mod requests;
 mod returns;
 mod run;

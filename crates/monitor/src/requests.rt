@@ -1,23 +1,18 @@
-// Kinds 12 to 16: a request, a connect, the dispatch of a waiting link, and a request's reply fetched or given up.
+// Kinds 12 to 14: a request, a connect, and the dispatch of a waiting link.
 ghost use mathlib.Core.Path.{_≡_};
 ghost use Prim.Native.Nat.{_+_, _<_, _≤_};
 ghost use lib.ListN.{length};
 ghost use Rattle.rules.specs.Choice.{pick};
-ghost use Rattle.rules.specs.Record.{placeOf, added, valued, newLink};
+ghost use Rattle.rules.specs.Record.{added, valued, newLink};
 ghost use Rattle.rules.specs.Requests.{noReply, noTran, recvOnly, connectFlags, linkTx, linkLeft, askLink, requestOf, connectOf, isIdle, fits};
-ghost use Rattle.rules.specs.Requests.{dispatchEvent, dispatched, nextWaiting, dispatchOf, requestEnd, outcomeCode, fetched, fetchOf, cancelled};
-ghost use Rattle.rules.specs.Requests.{cancelOf};
+ghost use Rattle.rules.specs.Requests.{dispatchEvent, dispatched, nextWaiting, dispatchOf};
 ghost use Rattle.monitor.specs.Words.{words};
 ghost use Rattle.monitor.specs.View.{view, ruledBy};
 use super::Told;
 use super::codes;
 use super::links::accept;
-use super::links::close_end;
 use super::links::coded;
 use super::links::has_own_end;
-use super::links::is_own_end;
-use super::links::place_of;
-use super::links::remove_at;
 use super::services::is_offered;
 use super::services::is_offering;
 use super::services::is_service;
@@ -317,99 +312,4 @@ pub(crate) fn dispatch(s: &mut [u32; WORDS], p: usize) -> Told
         return dispatch_at(&mut *s, p, i, l);
     }
     coded(codes::NOTHING_WAITING)
-}
-
-pub(crate) fn is_request_end(p: usize, l: Link) -> bool
-    ensures { λ r. ⌜ r ≡ requestEnd p l ⌝ }
-{
-    let own = is_own_end(p, l);
-    (l.kind == 0) & own
-}
-
-pub(crate) fn outcome_code(o: u32) -> i64
-    ensures { λ r. ⌜ r ≡ outcomeCode o ⌝ }
-{
-    if o == codes::TPEV_SVCSUCC {
-        return codes::TP_ACCEPTED;
-    }
-    if o == codes::TPEV_SVCFAIL {
-        return codes::TPESVCFAIL;
-    }
-    codes::TPESVCERR
-}
-
-// The reply of link a, which stands at the place i, is taken, and the link goes.
-pub(crate) fn fetch(s: &mut [u32; WORDS], i: usize, a: u32, l: Link) -> Told
-    requires { ⌜ (view (now s) .count ≤ 32) × (length (now s) ≡ words) × (i ≡ placeOf (view (now s)) a) ⌝ }
-    ensures { λ r. ⌜ (ruledBy r (view (now (s .exit))) ≡ fetched (view (now (s .entry))) a l) × (length (now (s .exit)) ≡ words) ⌝ }
-{
-    remove_at(&mut *s, i, a);
-    let code = outcome_code(l.outcome);
-    Told {
-        code,
-        value: 0,
-        event: 0,
-        token: l.ending,
-        service: 0,
-    }
-}
-
-// Kind 15.
-pub(crate) fn tpgetrply(s: &mut [u32; WORDS], p: usize, a: u32) -> Told
-    requires { ⌜ (view (now s) .count ≤ 32) × (length (now s) ≡ words) ⌝ }
-    ensures { λ r. ⌜ (ruledBy r (view (now (s .exit))) ≡ fetchOf (view (now (s .entry))) p a) × (length (now (s .exit)) ≡ words) ⌝ }
-{
-    let i = place_of(&*s, a);
-    let len = count(&*s);
-    if len <= i {
-        return coded(codes::NO_SUCH_END);
-    }
-    let l = link_at(&*s, i);
-    let own = is_request_end(p, l);
-    if !own {
-        return coded(codes::NO_SUCH_END);
-    }
-    let late = is_expired(&*s, l.tx);
-    if late {
-        return coded(codes::TIMED_OUT);
-    }
-    if l.state != 2 {
-        return coded(codes::NO_REPLY_YET);
-    }
-    fetch(&mut *s, i, a, l)
-}
-
-// The end of link a, which stands at the place i, closes.
-pub(crate) fn cancel(s: &mut [u32; WORDS], i: usize, a: u32, l: Link)
-    requires { ⌜ (view (now s) .count ≤ 32) × (length (now s) ≡ words) × (i ≡ placeOf (view (now s)) a) × (i < view (now s) .count) ⌝ }
-    ensures { λ _. ⌜ (view (now (s .exit)) ≡ cancelled (view (now (s .entry))) a l) × (length (now (s .exit)) ≡ words) ⌝ }
-{
-    if l.state == 2 {
-        remove_at(&mut *s, i, a);
-        return;
-    }
-    let k = close_end(l);
-    put_link(&mut *s, i, k);
-}
-
-// Kind 16.
-pub(crate) fn tpcancel(s: &mut [u32; WORDS], p: usize, a: u32) -> Told
-    requires { ⌜ (view (now s) .count ≤ 32) × (length (now s) ≡ words) ⌝ }
-    ensures { λ r. ⌜ (ruledBy r (view (now (s .exit))) ≡ cancelOf (view (now (s .entry))) p a) × (length (now (s .exit)) ≡ words) ⌝ }
-{
-    let i = place_of(&*s, a);
-    let len = count(&*s);
-    if len <= i {
-        return coded(codes::NO_SUCH_END);
-    }
-    let l = link_at(&*s, i);
-    let own = is_request_end(p, l);
-    if !own {
-        return coded(codes::NO_SUCH_END);
-    }
-    if l.tx != 0 {
-        return coded(codes::IN_TRANSACTION);
-    }
-    cancel(&mut *s, i, a, l);
-    accept(0)
 }

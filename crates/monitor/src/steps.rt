@@ -14,11 +14,11 @@ use super::conversations::tpdiscon;
 use super::conversations::tprecv;
 use super::conversations::tpsend;
 use super::links::coded;
+use super::replies::tpcancel;
+use super::replies::tpgetrply;
 use super::requests::dispatch;
 use super::requests::tpacall;
-use super::requests::tpcancel;
 use super::requests::tpconnect;
-use super::requests::tpgetrply;
 use super::returns::terminate;
 use super::returns::tpreturn;
 use super::services::tpadvertise;
@@ -61,7 +61,7 @@ pub(crate) fn rule(s: &mut [u32; WORDS], p: usize, k: u32, a: u32, b: u32, c: u3
         12 => tpacall(&mut *s, p, a, b, c),
         13 => tpconnect(&mut *s, p, a, b, c),
         14 => dispatch(&mut *s, p),
-        15 => tpgetrply(&mut *s, p, a),
+        15 => tpgetrply(&mut *s, p, a, b),
         16 => tpcancel(&mut *s, p, a),
         17 => tpsend(&mut *s, p, a, b, c),
         18 => tprecv(&mut *s, p, a),

@@ -316,12 +316,44 @@ pub(crate) fn number_at(s: &[u32; WORDS], i: usize) -> u32
     s[at]
 }
 
+pub(crate) fn kind_at(s: &[u32; WORDS], i: usize) -> u32
+    requires { ⌜ i < 32 ⌝ }
+    ensures { λ r. ⌜ r ≡ linkIn (view (now (s .entry))) i .kind ⌝ }
+{
+    let at = LINKS + i * LINK;
+    s[at + KIND]
+}
+
+pub(crate) fn originator_at(s: &[u32; WORDS], i: usize) -> u32
+    requires { ⌜ i < 32 ⌝ }
+    ensures { λ r. ⌜ r ≡ linkIn (view (now (s .entry))) i .originator ⌝ }
+{
+    let at = LINKS + i * LINK;
+    s[at + ORIGINATOR]
+}
+
+pub(crate) fn attached_at(s: &[u32; WORDS], i: usize) -> u32
+    requires { ⌜ i < 32 ⌝ }
+    ensures { λ r. ⌜ r ≡ linkIn (view (now (s .entry))) i .attached ⌝ }
+{
+    let at = LINKS + i * LINK;
+    s[at + ATTACHED]
+}
+
 pub(crate) fn tx_at(s: &[u32; WORDS], i: usize) -> u32
     requires { ⌜ i < 32 ⌝ }
     ensures { λ r. ⌜ r ≡ linkIn (view (now (s .entry))) i .tx ⌝ }
 {
     let at = LINKS + i * LINK;
     s[at + TX]
+}
+
+pub(crate) fn state_at(s: &[u32; WORDS], i: usize) -> u32
+    requires { ⌜ i < 32 ⌝ }
+    ensures { λ r. ⌜ r ≡ linkIn (view (now (s .entry))) i .state ⌝ }
+{
+    let at = LINKS + i * LINK;
+    s[at + STATE]
 }
 
 fn store_link(s: &mut [u32; WORDS], i: usize, l: Link)

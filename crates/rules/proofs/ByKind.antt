@@ -9,7 +9,8 @@ use borrow.Author.Tests.{eqb-true, eqb-false, leb-true}
 use Rattle.rules.specs.Choice.{pick}
 use Rattle.rules.specs.Tx.{openOf, closeOf, beginOf, commitOf, rollbackOf, infoOf, commitReturnOf, controlOf, timeoutOf}
 use Rattle.rules.specs.Services.{advertiseOf, unadvertiseOf}
-use Rattle.rules.specs.Requests.{requestOf, connectOf, dispatchOf, fetchOf, cancelOf}
+use Rattle.rules.specs.Requests.{requestOf, connectOf, dispatchOf}
+use Rattle.rules.specs.Replies.{fetchOf, cancelOf}
 use Rattle.rules.specs.Conversations.{sendOf, receiveOf, disconnectOf}
 use Rattle.rules.specs.Return.{returnOf, terminateOf}
 use Rattle.rules.specs.Step.{ruleOf, isKind}
@@ -33,7 +34,7 @@ pub record OfEachKind (P : Ruled → Type 0) (m : Monitor) (p k a b c : ℕ) : T
   pub onRequest : k ≡ 12 → P (requestOf m p a b c)
   pub onConnect : k ≡ 13 → P (connectOf m p a b c)
   pub onDispatch : k ≡ 14 → P (dispatchOf m p)
-  pub onFetch : k ≡ 15 → P (fetchOf m p a)
+  pub onFetch : k ≡ 15 → P (fetchOf m p a b)
   pub onCancel : k ≡ 16 → P (cancelOf m p a)
   pub onSend : k ≡ 17 → P (sendOf m p a b c)
   pub onReceive : k ≡ 18 → P (receiveOf m p a)

@@ -11,4 +11,5 @@ pub mod ByKind
 pub mod Refusals
 pub mod Lent
 pub mod Kept
+pub mod AnyReply
 pub mod Marked

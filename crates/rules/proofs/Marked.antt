@@ -17,7 +17,8 @@ use Rattle.rules.specs.Transaction.{servedTx, txOf, ended, expired, isOw
 use Rattle.rules.specs.States.{stateOf, nextOf, inState, entered}
 use Rattle.rules.specs.Tx.{openOf, closeOf, beginOf, goOn, commitCode, commitOf, timeoutOf}
 use Rattle.rules.specs.Services.{inSet, offers, countTo, offered, withService, offersNow, advertiseOf}
-use Rattle.rules.specs.Requests.{linkTx, askLink, requestOf, connectOf, requestEnd, cancelOf}
+use Rattle.rules.specs.Requests.{linkTx, askLink, requestOf, connectOf}
+use Rattle.rules.specs.Replies.{requestEnd, cancelOf}
 use Rattle.rules.specs.Conversations.{originatorEnd, serverEnd, anyEnd, hearsDisconnect, hearsReturn, endSide, isSender, sendOn, sendOf}
 use Rattle.rules.specs.Sound.{linksGood, worksFor, partyGood, partiesGood, sound}
 use Rattle.rules.specs.Step.{ruleOf, laterOf, answeredTo, turnedDown, callOf}

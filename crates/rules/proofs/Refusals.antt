@@ -8,11 +8,12 @@ use Rattle.rules.specs.Choice.{pick}
 use Rattle.rules.specs.Codes.{txOk, txProtocolError, txError, txEinval, noBegin, unsound, unknownKind, unknownParty}
 use Rattle.rules.specs.Codes.{badArgument, notAllowedNow, noSuchEnd, notOffered, noRoomLeft, inTransaction}
 use Rattle.rules.specs.Codes.{timedOut, nothingWaiting, noReplyYet, nothingUnread, unreadFull}
-use Rattle.rules.specs.Record.{linkOf, ruled}
+use Rattle.rules.specs.Record.{linkOf, ruled, ask}
 use Rattle.rules.specs.Transaction.{servedTx, txOf}
 use Rattle.rules.specs.Tx.{openOf, closeOf, beginOf, goOn, commitCode, commitOf, rollbackOf, infoOf, commitReturnOf, controlOf, timeoutOf}
 use Rattle.rules.specs.Services.{offersNow, advertiseOf, unadvertiseOf}
-use Rattle.rules.specs.Requests.{askLink, requestOf, connectOf, dispatched, dispatchOf, outcomeCode, fetched, fetchOf, cancelOf}
+use Rattle.rules.specs.Requests.{askLink, requestOf, connectOf, dispatched, dispatchOf}
+use Rattle.rules.specs.Replies.{outcomeCode, fetched, fetchOne, fetchAny, fetchOf, cancelOf}
 use Rattle.rules.specs.Conversations.{tellsDisconnect, tellsReturn, sendOn, sendOf, received, receiveOn, receiveOf, disconnectOf}
 use Rattle.rules.specs.Return.{returnWith, returnOf, terminateOf}
 use Rattle.rules.specs.Step.{ruleOf, isKind, advanced, answeredTo, turnedDown, callOf, stepOf}
@@ -126,11 +127,13 @@ module _ (m : Monitor) (p : ℕ) where
         asks (λ _. asks (λ _. asks (λ _. asks (λ _. d)
         (λ _. no noRoomLeft refl)) (λ _. no notOffered refl)) (λ _. no timedOut refl)) (λ _. no notAllowedNow refl)
 
-    fetch-decided : Decided m (fetchOf m p a)
-    unfolding fetchOf fetched isOutcome isRefusal isEarly
-    fetch-decided =
-        asks (λ _. asks (λ _. asks (λ _. does (reply-carried _))
-        (λ _. no noReplyYet refl)) (λ _. no timedOut refl)) (λ _. no noSuchEnd refl)
+    fetch-decided : (b : ℕ) → Decided m (fetchOf m p a b)
+    unfolding fetchOf fetchAny fetchOne fetched isOutcome isRefusal isEarly
+    fetch-decided b =
+        asks (λ _. asks (λ _. either _ _ _ (does (reply-carried _))) (λ _. either _ _ _ (does (reply-carried _)))) (λ _. no badArgument refl)
+      where
+        either : (x y z : Bool) {r : Ruled} → Decided m r → Decided m (ask m x noSuchEnd (ask m y timedOut (ask m z noReplyYet r)))
+        either x y z d = asks (λ _. asks (λ _. asks (λ _. d) (λ _. no noReplyYet refl)) (λ _. no timedOut refl)) (λ _. no noSuchEnd refl)
 
     cancel-decided : Decided m (cancelOf m p a)
     unfolding cancelOf isOutcome isRefusal isEarly
@@ -183,7 +186,7 @@ module _ (m : Monitor) (p : ℕ) where
         onRequest = λ _. request-decided;
         onConnect = λ _. connect-decided;
         onDispatch = λ _. dispatch-decided;
-        onFetch = λ _. fetch-decided;
+        onFetch = λ _. fetch-decided b;
         onCancel = λ _. cancel-decided;
         onSend = λ _. send-decided;
         onReceive = λ _. receive-decided;

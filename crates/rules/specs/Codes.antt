@@ -148,6 +148,10 @@ tpSendOnly = 4
 abbrev pub tpRecvOnly : ℕ
 tpRecvOnly = 8
 
+-- ---- flag of a fetch: whichever reply is there
+abbrev pub tpGetAny : ℕ
+tpGetAny = 1
+
 -- ---- how a service means to return
 abbrev pub tpSuccess : ℕ
 tpSuccess = 1

@@ -57,9 +57,14 @@ past21 e = not (unheard (e .answer .code))
 unfoldable pub accepted : Event → Bool
 accepted e = answeredBy (pos 0) e
 
--- "A 15, 17, 18 or 19 is on link a."
+-- a reply was fetched: "answered 0, 30 or 31"
+unfoldable pub replied : Event → Bool
+replied e = answeredBy (pos 0) e || (answeredBy (pos 30) e || answeredBy (pos 31) e)
+
+-- "A 15, 17, 18 or 19 is on link a."; a fetch with b = 1, "answered 0, 30 or 31, is on the link that its value names,
+-- whatever its a" (document 02, R-1)
 unfoldable pub linkOn : Event → ℕ
-linkOn e = e .call .a
+linkOn e = cond (ofKind 15 e && (eqb (e .call .b) 1 && replied e)) (e .answer .value) (e .call .a)
 
 unfoldable pub on : ℕ → Event → Bool
 on d e = eqb (linkOn e) d
@@ -182,7 +187,7 @@ deadlinePassed start now = not (eqb (timeoutAtStart start) 0) && leb (due (timeo
 -- answered 29 with event 2, 4 or 8"
 unfoldable pub finishes : ℕ → ℕ → Event → Bool
 finishes d o e =
-    (ofKind 15 e && (on d e && (answeredBy (pos 0) e || (answeredBy (pos 30) e || answeredBy (pos 31) e))))
+    (ofKind 15 e && (on d e && replied e))
     || ((ofKind 17 e || ofKind 18 e) && (on d e && (by o e && (answeredBy (pos 29) e && (withEvent 2 e || (withEvent 4 e || withEvent 8 e))))))
 
 -- "Unfinished: a link of T with no .."

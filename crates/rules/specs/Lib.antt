@@ -7,6 +7,7 @@ pub mod States
 pub mod Tx
 pub mod Services
 pub mod Requests
+pub mod Replies
 pub mod Conversations
 pub mod Return
 pub mod Sound
@@ -16,4 +17,5 @@ pub mod Equal
 pub mod History
 pub mod Demand
 pub mod After
+pub mod AnyReply
 pub mod Refusals

@@ -1,17 +1,16 @@
--- Kinds 12 to 16: a request, a connect, the dispatch of a waiting link, and a request's reply fetched or given up.
+-- Kinds 12 to 14: a request, a connect, and the dispatch of a waiting link.
 -- Assumes nothing.
 use Prim.Native.Nat.{ℕ, _+_, _/_, _%_}
 use mathlib.Core.Bool.{Bool, not, _&&_}
 use lib.ListN.{getD}
 use lib.Dec.{eqb, ltb, leb}
-use lib.IntN.{ℤ}
 use Rattle.rules.specs.Choice.{pick}
-use Rattle.rules.specs.Codes.{badArgument, notAllowedNow, noSuchEnd, notOffered, noRoomLeft, inTransaction, timedOut, nothingWaiting}
-use Rattle.rules.specs.Codes.{noReplyYet, tpAccepted, tpeSvcFail, tpeSvcErr, tpevSvcFail, tpevSvcSucc, requestDispatched, receiverDispatched}
+use Rattle.rules.specs.Codes.{badArgument, notAllowedNow, notOffered, noRoomLeft, timedOut, nothingWaiting}
+use Rattle.rules.specs.Codes.{tpAccepted, requestDispatched, receiverDispatched}
 use Rattle.rules.specs.Codes.{senderDispatched, tpNoReply, tpNoTran, tpSendOnly, tpRecvOnly}
 use Rattle.rules.specs.Lists.{firstOf, anyOf}
-use Rattle.rules.specs.Record.{freshLink, isOpened, isRequest, isWaiting, isReturned, ownEnd, party, live, linkOf, serving, closed, newLink}
-use Rattle.rules.specs.Record.{working, withParty, replaced, changed, removed, added, valued, ask}
+use Rattle.rules.specs.Record.{freshLink, isOpened, isRequest, isWaiting, ownEnd, party, live, serving, newLink}
+use Rattle.rules.specs.Record.{working, withParty, replaced, added, valued, ask}
 use Rattle.rules.specs.Transaction.{txOf, ended, expired}
 use Rattle.rules.specs.Services.{isService, offers}
 use Rattle.rules.specs.declared.Ruled.{Ruled}
@@ -110,35 +109,3 @@ dispatchOf m p =
     ask m (isIdle m p) notAllowedNow
     (ask m (ltb (nextWaiting m p) (m .count)) nothingWaiting
     (dispatched m p (nextWaiting m p) (getD (live m) (nextWaiting m p) freshLink)))
-
--- ---- 15 fetch, 16 cancel
--- is this an open request end of party p's
-unfoldable pub requestEnd : ℕ → Link → Bool
-requestEnd p l = isRequest l && ownEnd p l
-
--- "Outcome 8 gives 0, 4 gives 30, 2 gives 31"
-unfoldable pub outcomeCode : ℕ → ℤ
-outcomeCode o = pick (eqb o tpevSvcSucc) tpAccepted (pick (eqb o tpevSvcFail) tpeSvcFail tpeSvcErr)
-
--- the reply of link a is taken, and the link goes
-unfoldable pub fetched : Monitor → ℕ → Link → Ruled
-fetched m a l = record { monitor = removed m a; code = outcomeCode (l .outcome); value = 0; event = 0; token = l .ending; service = 0 }
-
--- 15 fetch a: an open request end of the caller's? 24. Not expired? 28. Returned? 32
-unfoldable pub fetchOf : Monitor → ℕ → ℕ → Ruled
-fetchOf m p a =
-    ask m (requestEnd p (linkOf m a)) noSuchEnd
-    (ask m (not (expired m (linkOf m a .tx))) timedOut
-    (ask m (isReturned (linkOf m a)) noReplyYet
-    (fetched m a (linkOf m a))))
-
--- "The end closes; a returned link goes; the service runs on."
-unfoldable pub cancelled : Monitor → ℕ → Link → Monitor
-cancelled m a l = pick (isReturned l) (removed m a) (changed m a (closed l))
-
--- 16 cancel a: as in 15, 24. Is its transaction 0? 27
-unfoldable pub cancelOf : Monitor → ℕ → ℕ → Ruled
-cancelOf m p a =
-    ask m (requestEnd p (linkOf m a)) noSuchEnd
-    (ask m (eqb (linkOf m a .tx) 0) inTransaction
-    (valued (cancelled m a (linkOf m a)) 0))

@@ -10,7 +10,8 @@ use Rattle.rules.specs.Record.{withClock, ruled}
 use Rattle.rules.specs.Transaction.{txOf}
 use Rattle.rules.specs.Tx.{openOf, closeOf, beginOf, commitOf, rollbackOf, infoOf, commitReturnOf, controlOf, timeoutOf}
 use Rattle.rules.specs.Services.{advertiseOf, unadvertiseOf}
-use Rattle.rules.specs.Requests.{requestOf, connectOf, dispatchOf, fetchOf, cancelOf}
+use Rattle.rules.specs.Requests.{requestOf, connectOf, dispatchOf}
+use Rattle.rules.specs.Replies.{fetchOf, cancelOf}
 use Rattle.rules.specs.Conversations.{sendOf, receiveOf, disconnectOf}
 use Rattle.rules.specs.Return.{returnOf, terminateOf}
 use Rattle.rules.specs.Sound.{sound}
@@ -36,7 +37,7 @@ ruleOf m p k a b c =
     (pick (eqb k 12) (requestOf m p a b c)
     (pick (eqb k 13) (connectOf m p a b c)
     (pick (eqb k 14) (dispatchOf m p)
-    (pick (eqb k 15) (fetchOf m p a)
+    (pick (eqb k 15) (fetchOf m p a b)
     (pick (eqb k 16) (cancelOf m p a)
     (pick (eqb k 17) (sendOf m p a b c)
     (pick (eqb k 18) (receiveOf m p a)

@@ -12,7 +12,7 @@ use Rattle.rules.specs.Choice.{pick, same}
 use Rattle.rules.specs.declared.Call.{Call}
 use Rattle.rules.specs.declared.Link.{Link}
 use Rattle.rules.specs.declared.Party.{Party}
-use Rattle.rules.specs.History.{Event, some, ofKind, by, answeredBy, withValue, withEvent, accepted, linkOn, on, endsIn, upToStart}
+use Rattle.rules.specs.History.{Event, some, ofKind, by, answeredBy, withValue, withEvent, accepted, replied, linkOn, on, endsIn, upToStart}
 use Rattle.rules.specs.History.{startedBy, shownOwner, sameCode, makes, isLinkOf, serves, failedEnd, disconnect, finishes}
 use Rattle.rules.proofs.Logic.{test, same-refl, same-ne, and-r, and-false, or-true, or-false, pick-yes, pick-no}
 use Rattle.rules.proofs.Logic.{Nz, and-yes, and-assoc, and-comm, cond-same, cond-of, cond-and, cond-not}
@@ -103,19 +103,19 @@ serves-tells e f h q = ofIt e 14
     leave-law false false b = refl
 
 finishes-tells : (e : Event) (d o : ℕ) → finishes d o e ≡ isFinished (tellOf e) d && (ofKind 15 e || by o e)
-unfolding tellOf finishes ofKind on by same endingEvent linkOn accepted answeredBy withEvent
+unfolding tellOf finishes ofKind on by same endingEvent linkOn replied accepted answeredBy withEvent
 finishes-tells e d o = ofIt e 15
     (λ y.
     rw y
-    (simp (cond-of (λ t. isFinished t d), cond-and, or-false, and-yes) (and-comm (on d e) (accepted e || (answeredBy (pos 30) e || answeredBy (pos 31) e)))))
+    (simp (cond-of (λ t. isFinished t d), cond-and, or-false, and-yes) (and-comm (eqb (cond (eqb (e .call .b) 1 && replied e) (e .answer .value) (e .call .a)) d) (replied e))))
     (λ n15. ofIt e 17
     (λ y.
     rw y
-    (simp (cond-of (λ t. isFinished t d), cond-and, cond-not) (unless (accepted e) (on d e) (by o e) (endingEvent e) (λ a. rw (zero-code (e .answer .code) a)))))
+    (simp (cond-of (λ t. isFinished t d), cond-and, cond-not) (unless (accepted e) (eqb (e .call .a) d) (by o e) (endingEvent e) (λ a. rw (zero-code (e .answer .code) a)))))
     (λ n17. ofIt e 18
     (λ y.
     rw y
-    (simp (cond-of (λ t. isFinished t d), cond-and, cond-not) (unless (answeredBy (pos 29) e && withEvent 32 e) (on d e) (by o e) (endingEvent e) given-first)))
+    (simp (cond-of (λ t. isFinished t d), cond-and, cond-not) (unless (answeredBy (pos 29) e && withEvent 32 e) (eqb (e .call .a) d) (by o e) (endingEvent e) given-first)))
     (λ n18. rw (n15, n17, n18) (simp (cond-of (λ t. isFinished t d), cond-same)))))
   where
     unless : (a l o x : Bool) → (a ≡ true → x ≡ false) → l && (o && x) ≡ (not a && (x && l)) && o

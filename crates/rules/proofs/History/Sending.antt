@@ -7,7 +7,7 @@ use Prim.Native.Nat.{ℕ}
 use lib.IntN.{pos}
 use borrow.Author.Tests.{eqb-true}
 use Rattle.rules.specs.Choice.{same}
-use Rattle.rules.specs.History.{Event, some, ofKind, by, answeredBy, withEvent, accepted, linkOn, on, flag2}
+use Rattle.rules.specs.History.{Event, some, ofKind, by, answeredBy, withEvent, accepted, replied, linkOn, on, flag2}
 use Rattle.rules.specs.History.{endsIn, isSend, differentEnds, givenSendOnly, sendsApart, senderRule}
 use Rattle.rules.proofs.Logic.{test, not-both, and-false, or-l, or-r, or-true, not-true, and-yes}
 use Rattle.rules.proofs.History.Tells.{Tell, nothing, sent, given, made, taken, finished, disconnected, left, endingEvent, tellOf}
@@ -93,7 +93,7 @@ module _ (f : Tell → Bool) (w : Elsewhere f) where
   elsewhere e s g =
       choice (ofKind 12 e || ofKind 13 e) _ _ (λ _. choice (accepted e && (not (flag2 (e .call .b)) && not (endsIn 0 e))) _ _ (λ _. w .made′ _) (w .nothing′))
       (choice (ofKind 14 e) _ _ (λ _. choice (accepted e) _ _ (λ _. w .taken′ _) (w .nothing′))
-      (choice (ofKind 15 e) _ _ (λ _. choice (answeredBy (pos 0) e || (answeredBy (pos 30) e || answeredBy (pos 31) e)) _ _ (λ _. w .finished′ _) (w .nothing′))
+      (choice (ofKind 15 e) _ _ (λ _. choice (replied e) _ _ (λ _. w .finished′ _) (w .nothing′))
       (choice (ofKind 17 e) _ _ s
       (choice (ofKind 18 e) _ _ g
       (choice (ofKind 19 e) _ _ (λ _. choice (accepted e) _ _ (λ _. w .disconnected′ _) (w .nothing′))

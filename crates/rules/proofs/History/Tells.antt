@@ -5,7 +5,7 @@ use mathlib.Core.Bool.{Bool, true, false, cond, not, _&&_, _||_}
 use Prim.Native.Nat.{ℕ}
 use lib.Dec.{eqb}
 use lib.IntN.{pos}
-use Rattle.rules.specs.History.{Event, ofKind, answeredBy, withValue, withEvent, accepted, linkOn, flag2, endsIn}
+use Rattle.rules.specs.History.{Event, ofKind, answeredBy, withValue, withEvent, accepted, replied, linkOn, flag2, endsIn}
 use Rattle.rules.specs.declared.Call.{Call}
 
 -- nothing that the statement reads; a send on d; SENDONLY given on d; link d made, of the transaction that the answer ends in;
@@ -22,7 +22,7 @@ unfoldable pub tellOf : Event → Tell
 tellOf e =
     cond (ofKind 12 e || ofKind 13 e) (cond (accepted e && (not (flag2 (e .call .b)) && not (endsIn 0 e))) (made (e .answer .value)) nothing)
     (cond (ofKind 14 e) (cond (accepted e) (taken (e .answer .value)) nothing)
-    (cond (ofKind 15 e) (cond (answeredBy (pos 0) e || (answeredBy (pos 30) e || answeredBy (pos 31) e)) (finished (linkOn e)) nothing)
+    (cond (ofKind 15 e) (cond (replied e) (finished (linkOn e)) nothing)
     (cond (ofKind 17 e) (cond (accepted e) (sent (linkOn e)) (cond (endingEvent e) (finished (linkOn e)) nothing))
     (cond (ofKind 18 e) (cond (answeredBy (pos 29) e && withEvent 32 e) (given (linkOn e)) (cond (endingEvent e) (finished (linkOn e)) nothing))
     (cond (ofKind 19 e) (cond (accepted e) (disconnected (linkOn e)) nothing)

@@ -14,7 +14,7 @@ use Rattle.rules.specs.Record.{freshParty, freshMonitor, party}
 use Rattle.rules.specs.Transaction.{servedTx, txOf}
 use Rattle.rules.specs.Step.{turnedDown, callOf, stepOf}
 use Rattle.rules.specs.Run.{callAt, placesOf, ranOf, answersOf, callsIn, Listed, listOf}
-use Rattle.rules.specs.History.{Event, accepted, unheard, past21, answeredBy, latestTx, greatestClock, shownTimeout, isOwnersCommit}
+use Rattle.rules.specs.History.{Event, accepted, unheard, past21, answeredBy, replied, latestTx, greatestClock, shownTimeout, isOwnersCommit}
 use Rattle.rules.specs.History.{commitRule, aloneRule, holds, firstCall, firstAnswer, thenCalls, thenList}
 use Rattle.rules.specs.Demand.{Entry, single, lent, thenLent, thenEntries, Demand3}
 use Rattle.rules.specs.declared.Answer.{Answer}
@@ -52,7 +52,7 @@ module _ (m : Monitor) (h : List Event) (i : Reached m h) (c : Call) (code : ℤ
   not-code z h = codes-apart (λ x. not (unheard x)) z code (rw h) (rw early)
 
   quiet : tellOf e ≡ nothing
-  unfolding tellOf accepted endingEvent
+  unfolding tellOf accepted endingEvent replied
   quiet = rw (not-code (pos 0) refl, not-code (pos 29) refl, not-code (pos 30) refl, not-code (pos 31) refl) (simp cond-same)
 
   valueless : Valueless e

@@ -1,6 +1,6 @@
 -- The invariant of demand 3's sender rule: whoever may send on a conversation is not barred; each move keeps it.
 -- Assumes nothing.
-use mathlib.Core.Path.{_≡_, refl, sym, _∙_}
+use mathlib.Core.Path.{_≡_, refl, sym, subst, _∙_}
 use mathlib.Core.Bool.{Bool, true, false, not, _&&_, _||_}
 use mathlib.Core.List.{List, [], _∷_}
 use Prim.Native.Nat.{ℕ, suc, _≤_, _<_}
@@ -187,8 +187,7 @@ module _ (c : Call) (p n m : ℕ) (P : ℕ → Party) (L : ℕ → Link) (n′ m
 
   -- the sender rule at this event
   pub sender-holds : {t : Tell} → tellOf e ≡ t → Move c p n m P L n′ m′ P′ L′ t → senderRule h e ≡ true
-  unfolding linkOn
-  sender-holds q k = sender-rule h e (λ s. rw mine (spoken q k (own-send s)))
+  sender-holds q k = sender-rule h e (λ s. subst (λ (x : ℕ). barred h x (linkOn e) ≡ false) (sym mine) (spoken q k (own-send s)))
     where
       own-send : isSend e ≡ true → sendsAt (tellOf e) (linkOn e) ≡ true
       own-send s = unfold on in (sym (tells-send e (linkOn e)) ∙ rw (s, eq-eqb (linkOn e) (linkOn e) refl))

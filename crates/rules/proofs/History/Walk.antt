@@ -8,6 +8,7 @@ pub mod Moved
 pub mod Parted
 pub mod Parting
 pub mod Requests
+pub mod Replies
 pub mod Return
 pub mod Says
 pub mod Services

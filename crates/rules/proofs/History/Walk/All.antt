@@ -12,7 +12,8 @@ use Rattle.rules.proofs.History.Walk.Moved.{Moved}
 use Rattle.rules.proofs.History.Walk.Tx.{open-moved, close-moved, begin-moved, commit-moved, rollback-moved}
 use Rattle.rules.proofs.History.Walk.Tx.{info-moved, commit-return-moved, control-moved, timeout-moved}
 use Rattle.rules.proofs.History.Walk.Services.{advertise-moved, unadvertise-moved}
-use Rattle.rules.proofs.History.Walk.Requests.{request-moved, connect-moved, dispatch-moved, fetch-moved, cancel-moved}
+use Rattle.rules.proofs.History.Walk.Requests.{request-moved, connect-moved, dispatch-moved}
+use Rattle.rules.proofs.History.Walk.Replies.{fetch-moved, cancel-moved}
 use Rattle.rules.proofs.History.Walk.Conversations.{send-moved, receive-moved, disconnect-moved}
 use Rattle.rules.proofs.History.Walk.Return.{return-moved, terminate-moved}
 

@@ -1,4 +1,4 @@
--- The walk over kinds 12 to 16: links made, taken, fetched and cancelled.
+-- The walk over kinds 12 to 14: links made and taken; what a link that is looked up, changed or gone leaves.
 -- Assumes nothing.
 use mathlib.Core.Path.{_≡_, refl, sym, ap, subst, _∙_}
 use mathlib.Core.Bool.{Bool, true, false, not, _&&_, _||_}
@@ -9,13 +9,13 @@ use lib.Dec.{eqb, leb, ltb}
 use lib.ListN.{getD}
 use borrow.Author.Tests.{eqb-true, eqb-false, leb-true, ltb-true}
 use Rattle.rules.specs.Choice.{pick, same}
-use Rattle.rules.specs.Codes.{badArgument, notAllowedNow, noSuchEnd, notOffered, noRoomLeft, inTransaction, timedOut, nothingWaiting, noReplyYet}
-use Rattle.rules.specs.Record.{freshLink, isAttached, isRequest, isWaiting, isWorking, ownEnd, party, live, linkOf, withParty, replaced}
-use Rattle.rules.specs.Record.{changed, removed, added, closed, valued, serving, newLink, working}
+use Rattle.rules.specs.Codes.{badArgument, notAllowedNow, notOffered, noRoomLeft, timedOut, nothingWaiting}
+use Rattle.rules.specs.Record.{freshLink, isAttached, isWaiting, isWorking, ownEnd, party, live, linkOf, withParty, replaced}
+use Rattle.rules.specs.Record.{changed, removed, added, valued, serving, newLink, working}
 use Rattle.rules.specs.Transaction.{txOf, ended}
 use Rattle.rules.specs.Services.{isService}
 use Rattle.rules.specs.Requests.{noReply, noTran, recvOnly, linkTx, askLink, isBareNoReply, requestOf, connectOf, isIdle, fits, dispatched}
-use Rattle.rules.specs.Requests.{nextWaiting, dispatchOf, requestEnd, outcomeCode, fetched, fetchOf, cancelled, cancelOf}
+use Rattle.rules.specs.Requests.{nextWaiting, dispatchOf}
 use Rattle.rules.specs.History.{flag2}
 use Rattle.rules.specs.declared.Call.{Call}
 use Rattle.rules.specs.declared.Link.{Link}
@@ -26,16 +26,16 @@ use Rattle.rules.proofs.Logic.{byTest, test, not-both, pick-true, pick-
 use Rattle.rules.proofs.Fine.{noLink, txP, look, Frame, Fine}
 use Rattle.rules.proofs.Looks.{look-number, there, look-next, linkOf-look, txOf-txP, any-none}
 use Rattle.rules.proofs.Parties.{party-frame, live-owner, owned-none}
-use Rattle.rules.proofs.Changes.{first-fits, first-look, first-there, replaced-same, replaced-other, replaced-frame, changed-clock}
-use Rattle.rules.proofs.Changes.{changed-lastlink, changed-lasttx, changed-parties, changed-same, changed-other, changed-frame, removed-same}
+use Rattle.rules.proofs.Changes.{first-fits, first-look, first-there, replaced-same, replaced-other, replaced-frame}
+use Rattle.rules.proofs.Changes.{changed-lastlink, changed-lasttx, removed-same}
 use Rattle.rules.proofs.Changes.{removed-other, removed-frame, removed-parties, removed-clock, removed-lastlink, removed-lasttx, added-new}
 use Rattle.rules.proofs.Changes.{added-other, added-frame}
 use Rattle.rules.proofs.History.Tells.{Tell, nothing, finished}
-use Rattle.rules.proofs.History.Moves.{Left, Move}
+use Rattle.rules.proofs.History.Moves.{Move}
 use Rattle.rules.proofs.History.Walk.Moved.{Moved, Own}
-use Rattle.rules.proofs.History.Walk.Says.{Says, isTimed, isFetched, says-made, says-made-flagged, says-made-free, says-taken, says-fetched, says-cancelled, time-kept}
+use Rattle.rules.proofs.History.Walk.Says.{Says, isTimed, says-made, says-made-flagged, says-made-free, says-taken, time-kept}
 use Rattle.rules.proofs.History.Walk.Base.{MoveTo, KeptTo, MakesTo, ask-moved, refused, idle-parties, moved-links, own-set, own-all, moved-own}
-use Rattle.rules.proofs.History.Walk.LinkChanges.{noLink-working, returned-rests, closed-left, newLink-good, own-end, noLink-own}
+use Rattle.rules.proofs.History.Walk.LinkChanges.{noLink-working, newLink-good, own-end, noLink-own}
 
 -- ---- a link found by its number: under a test that neither a fresh link nor a missing one passes
 pub record Found (m : Monitor) (a : ℕ) : Type 0 where
@@ -71,76 +71,6 @@ finish-moved m c fine kt d r e says th og rs =
       gone′ = rw e (removed-same m (fine .frame) d);
       others = rw e (removed-other m (fine .frame) d);
     }))
-
--- ---- an open request end
-requestEnd-fresh : (p : ℕ) → requestEnd p freshLink ≡ false
-unfolding requestEnd ownEnd
-requestEnd-fresh p = refl
-
-requestEnd-none : (p : ℕ) → requestEnd p noLink ≡ false
-unfolding requestEnd ownEnd noLink
-requestEnd-none p = refl
-
-request-attached : (p : ℕ) (l : Link) → requestEnd p l ≡ true → isAttached l ≡ true
-unfolding requestEnd ownEnd
-request-attached p l e = and-l _ _ (and-r (isRequest l) _ e)
-
-request-originator : (p : ℕ) (l : Link) → requestEnd p l ≡ true → l .originator ≡ p
-unfolding requestEnd ownEnd
-request-originator p l e = same-true _ _ (and-r (isAttached l) _ (and-r (isRequest l) _ e))
-
--- ---- 15 fetch
-outcome-fetched : (o : ℕ) → isFetched (outcomeCode o) ≡ true
-unfolding outcomeCode
-outcome-fetched o = byTest (λ z. isFetched z ≡ true) (λ _. refl) (λ _. byTest (λ z. isFetched z ≡ true) (λ _. refl) (λ _. refl))
-
-pub fetch-moved : (m : Monitor) (c : Call) → Fine m → c .party < 16 → c .kind ≡ 15 → Moved m c (fetchOf m (c .party) (c .a))
-unfolding fetchOf fetched
-fetch-moved m c fine pb k =
-    ask-moved (λ e. let f = found m (fine .frame) (requestEnd (c .party)) (requestEnd-fresh (c .party)) (requestEnd-none (c .party)) (c .a) e in
-    let i = f .is in
-    ask-moved (λ _. ask-moved
-    (λ r. finish-moved m c fine (rw k) (c .a) (fetched m (c .a) (linkOf m (c .a))) refl
-    (says-fetched c _ k (outcome-fetched (linkOf m (c .a) .outcome))) (f .there′)
-    (request-originator (c .party) _ (rw i at e)) (returned-rests (look (c .a) (live m)) (rw i at r)))
-    (λ _. refused noReplyYet refl fine))
-    (λ _. refused timedOut refl fine))
-    (λ _. refused noSuchEnd refl fine)
-
--- ---- 16 cancel
-pub cancel-moved : (m : Monitor) (c : Call) → Fine m → c .party < 16 → c .kind ≡ 16 → Moved m c (cancelOf m (c .party) (c .a))
-unfolding cancelOf cancelled
-cancel-moved m c fine pb k =
-    ask-moved (λ e. let f = found m (fine .frame) (requestEnd (c .party)) (requestEnd-fresh (c .party)) (requestEnd-none (c .party)) (c .a) e in
-    let i = f .is in
-    let o = request-attached (c .party) (look (c .a) (live m)) (rw i at e) in
-    ask-moved (λ t. let z : look (c .a) (live m) .tx ≡ 0 = eqb-true _ 0 (rw i at t) in
-    byTest (λ (x : Monitor). Moved m c (valued x 0))
-    (λ r. moved-links m c _ nothing (removed-frame m (fine .frame) (c .a)) (removed-clock m (c .a)) (removed-parties m (c .a))
-    (time-kept c _ _ 16 k refl) (says-cancelled c _ k refl)
-    (Move.cancels (removed-kept m c (c .a)) (c .a) (record {
-      idle = idle-parties m (removed m (c .a)) (removed-parties m (c .a));
-      was = o;
-      there = f .there′;
-      noTx = z;
-      fade = Left.gone (removed-same m (fine .frame) (c .a));
-      fadeWorks = λ w. not-both w (returned-rests (look (c .a) (live m)) (rw i at r));
-      others = removed-other m (fine .frame) (c .a);
-    })))
-    (λ r. let s = changed-same m (fine .frame) (c .a) (f .there′) (closed (linkOf m (c .a))) (f .number) in
-    moved-links m c _ nothing (changed-frame m (fine .frame) (c .a) (f .there′) _ (f .number)) (changed-clock m (c .a) _) (changed-parties m (c .a) _)
-    (time-kept c _ _ 16 k refl) (says-cancelled c _ k refl)
-    (Move.cancels (changed-kept m c (c .a) _) (c .a) (record {
-      idle = idle-parties m (changed m (c .a) (closed (linkOf m (c .a)))) (changed-parties m (c .a) _);
-      was = o;
-      there = f .there′;
-      noTx = z;
-      fade = rw (s, i) (closed-left _);
-      fadeWorks = λ w. rw (s, i) w;
-      others = changed-other m (fine .frame) (c .a) (f .there′) _ (f .number);
-    }))))
-    (λ _. refused inTransaction refl fine))
-    (λ _. refused noSuchEnd refl fine)
 
 -- ---- 14 take
 record Idling (m : Monitor) (p : ℕ) : Type 0 where

@@ -1,7 +1,7 @@
 -- What an answer says: past question 21, of 20 and 21 a value only where accepted, what it tells by its kind, and the caller's timeout after it.
 -- Assumes nothing.
 use mathlib.Core.Path.{_≡_, refl}
-use mathlib.Core.Bool.{Bool, true, false, not, _&&_, _||_}
+use mathlib.Core.Bool.{Bool, true, false, cond, not, _&&_, _||_}
 use Prim.Native.Nat.{ℕ}
 use lib.Dec.{eqb, leb}
 use lib.IntN.{ℤ, pos}
@@ -9,10 +9,10 @@ use borrow.Author.Tests.{eqb-true, ne-eqb}
 use Rattle.rules.specs.Choice.{same}
 use Rattle.rules.specs.Transaction.{txOf}
 use Rattle.rules.specs.Step.{answeredTo}
-use Rattle.rules.specs.History.{ofKind, sameCode, unheard, answeredBy, withValue, withEvent, accepted, past21, linkOn, flag2, endsIn}
+use Rattle.rules.specs.History.{ofKind, sameCode, unheard, answeredBy, withValue, withEvent, accepted, past21, replied, linkOn, flag2, endsIn}
 use Rattle.rules.specs.declared.Call.{Call}
 use Rattle.rules.specs.declared.Ruled.{Ruled}
-use Rattle.rules.proofs.Logic.{not-both, Nz, or-l, or-r, or-cases, and-false, and-l, and-r, not-true, cond-same}
+use Rattle.rules.proofs.Logic.{not-both, Nz, or-l, or-r, or-cases, and-yes, and-false, and-l, and-r, not-true, cond-same}
 use Rattle.rules.proofs.Codes.{of-code}
 use Rattle.rules.proofs.History.Tells.{Tell, nothing, sent, given, made, taken, finished, disconnected, left, endingEvent, tellOf, Valueless}
 use Rattle.rules.proofs.History.Moves.{isEnding}
@@ -70,7 +70,7 @@ module _ (c : Call) (r : Ruled) where
 
   -- ---- nothing: by the code, and by the kind
   tells-silent : isSilent (r .code) ≡ true → tellOf (eventOf c r) ≡ nothing
-  unfolding tellOf endingEvent eventOf answeredTo accepted answeredBy
+  unfolding tellOf endingEvent eventOf answeredTo accepted answeredBy replied
   tells-silent h =
       let n = not-true _ h in
       let n29 = or-r (sameCode (pos 0) (r .code)) _ n in
@@ -113,9 +113,10 @@ module _ (c : Call) (r : Ruled) where
   says-taken k z = says-accepted z (rw (k, z))
 
   -- ---- 15
-  pub says-fetched : c .kind ≡ 15 → isFetched (r .code) ≡ true → Says c r (finished (c .a))
-  unfolding tellOf ofKind eventOf answeredTo accepted answeredBy linkOn
-  says-fetched k z = says-by-kind (rw k) (fetched-past (r .code) z) (rw (k, z))
+  -- link d is the one that the value names, or by b the one asked for
+  pub says-fetched : c .kind ≡ 15 → isFetched (r .code) ≡ true → (d : ℕ) → cond (eqb (c .b) 1) (r .value) (c .a) ≡ d → Says c r (finished d)
+  unfolding tellOf ofKind eventOf answeredTo answeredBy replied linkOn
+  says-fetched k z d e = says-by-kind (rw k) (fetched-past (r .code) z) (rw (k, z, and-yes (eqb (c .b) 1), e))
 
   -- ---- 16
   pub says-cancelled : c .kind ≡ 16 → r .code ≡ pos 0 → Says c r nothing

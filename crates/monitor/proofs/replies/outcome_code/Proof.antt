@@ -1,7 +1,7 @@
--- `requests::outcome_code` meets its contract.
+-- `replies::outcome_code` meets its contract.
 use Rattle.monitor.proofs.Usual.{sym, _∙_, eq-eqb, ne-eqb, outcomeCode, pick-true, pick-false}
-use Rattle.monitor.proofs.requests.outcome_code.Statement.{statement}
-use Rattle.monitor.proofs.requests.outcome_code.Tie as tie
+use Rattle.monitor.proofs.replies.outcome_code.Statement.{statement}
+use Rattle.monitor.proofs.replies.outcome_code.Tie as tie
 
 returns : tie.Need-returns
 unfolding outcomeCode

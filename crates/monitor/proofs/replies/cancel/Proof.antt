@@ -1,7 +1,7 @@
--- `requests::cancel` meets its contract.
+-- `replies::cancel` meets its contract.
 use Rattle.monitor.proofs.Usual.{ap, sym, _∙_, needs, eq-eqb, ne-eqb, changed, cancelled, view, pick-true, pick-false, replaced-of}
-use Rattle.monitor.proofs.requests.cancel.Statement.{statement}
-use Rattle.monitor.proofs.requests.cancel.Tie as tie
+use Rattle.monitor.proofs.replies.cancel.Statement.{statement}
+use Rattle.monitor.proofs.replies.cancel.Tie as tie
 
 returns : tie.Need-returns
 unfolding cancelled

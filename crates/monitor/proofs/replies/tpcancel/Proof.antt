@@ -1,9 +1,9 @@
--- `requests::tpcancel` meets its contract.
+-- `replies::tpcancel` meets its contract.
 use Rattle.monitor.proofs.Usual.{ℕ, _≡_, ap₂, sym, _∙_, needs, eqb, eq-eqb, ne-eqb, not-true, not-false, Monitor, Link, Ruled, ask, valued, noSuchEnd, inTransaction}
 use Rattle.monitor.proofs.Usual.{cancelled, cancelOf, view, ruledBy, pick-true, pick-false}
 use Rattle.monitor.proofs.Talking.{refused, no-request-end, on-request-end}
-use Rattle.monitor.proofs.requests.tpcancel.Statement.{statement}
-use Rattle.monitor.proofs.requests.tpcancel.Tie as tie
+use Rattle.monitor.proofs.replies.tpcancel.Statement.{statement}
+use Rattle.monitor.proofs.replies.tpcancel.Tie as tie
 
 -- the rule past the question of the end
 abbrev rest : Monitor → ℕ → Link → Ruled

@@ -1,20 +1,20 @@
--- `requests::tpgetrply` meets its contract.
+-- `replies::fetch_one` meets its contract.
 use Rattle.monitor.proofs.Usual.{ℕ, _≡_, ap, sym, _∙_, Bool, not, needs, eq-eqb, ne-eqb, not-true, not-false, Monitor, Link, Ruled, isReturned, ask, noSuchEnd, timedOut, noReplyYet}
-use Rattle.monitor.proofs.Usual.{expired, fetched, fetchOf, view, pick-true, pick-false}
+use Rattle.monitor.proofs.Usual.{expired, fetched, fetchOne, view, pick-true, pick-false}
 use Rattle.monitor.proofs.Talking.{refused, no-request-end, on-request-end}
-use Rattle.monitor.proofs.requests.tpgetrply.Statement.{statement}
-use Rattle.monitor.proofs.requests.tpgetrply.Tie as tie
+use Rattle.monitor.proofs.replies.fetch_one.Statement.{statement}
+use Rattle.monitor.proofs.replies.fetch_one.Tie as tie
 
 -- the rule past the question of the end, and whether its transaction has expired
 abbrev timely : Monitor → ℕ → Link → Bool → Ruled
-timely m a l late = ask m (not late) timedOut (ask m (isReturned l) noReplyYet (fetched m a l))
+timely m a l late = ask m (not late) timedOut (ask m (isReturned l) noReplyYet (fetched m a l 0))
 
 abbrev rest : Monitor → ℕ → Link → Ruled
 rest m a l = timely m a l (expired m (l .tx))
 
 found : (c : tie.After-is-request-end) → let a = c .before .before .before .before .before .before .before .before .args in let m = view (a .s .now) in
-    fetchOf m (a .p) (a .a) ≡ ask m (c .is-request-end .result) noSuchEnd (rest m (a .a) (c .before .link-at .result))
-unfolding fetchOf
+    fetchOne m (a .p) (a .a) ≡ ask m (c .is-request-end .result) noSuchEnd (rest m (a .a) (c .before .link-at .result))
+unfolding fetchOne
 found c =
     let s = c .before .before .before .before .before .before .before .before in
     let a = s .args in
@@ -23,7 +23,7 @@ found c =
     on-request-end (a .s .now) (a .a) place (s .pre .0) len (a .p) (rest (view (a .s .now)) (a .a)) (c .before .before .before .if1 .left) (c .before .link-at .ensures) (c .is-request-end .ensures)
 
 returns : tie.Need-returns
-unfolding fetchOf
+unfolding fetchOne
 returns c =
     let s = c .before .before .before .before .before .before in
     let place = c .before .before .before .before .place-of .ensures in
@@ -37,7 +37,7 @@ returns-2 c =
     (refused (c .coded2 .ensures) (found asked ∙ pick-false _ _ _ (not-true _ (c .before .if2 .taken))), s .pre .1)
 
 own : (c : tie.After-is-expired) → let a = c .before .before .before .before .before .before .before .before .before .before .before .args in let m = view (a .s .now) in
-    fetchOf m (a .p) (a .a) ≡ timely m (a .a) (c .before .before .before .before .link-at .result) (c .is-expired .result)
+    fetchOne m (a .p) (a .a) ≡ timely m (a .a) (c .before .before .before .before .link-at .result) (c .is-expired .result)
 own c =
     let a = c .before .before .before .before .before .before .before .before .before .before .before .args in
     found (c .before .before .before)
@@ -62,8 +62,8 @@ returns-5 c =
     let r = own asked ∙ pick-true _ _ _ (ap not (c .before .before .before .before .if3 .left)) ∙ pick-true _ _ _ (eq-eqb _ _ (c .before .before .if4 .left)) in
     (c .fetch .ensures .0 ∙ sym r, c .fetch .ensures .1)
 
-pub tpgetrply-spec : {M : Type 1} → statement M
-tpgetrply-spec =
+pub fetch-one-spec : {M : Type 1} → statement M
+fetch-one-spec =
     tie.close
     (tie.spec
     (λ c κs. search needs)

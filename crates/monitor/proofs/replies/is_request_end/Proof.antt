@@ -1,7 +1,7 @@
--- `requests::is_request_end` meets its contract.
+-- `replies::is_request_end` meets its contract.
 use Rattle.monitor.proofs.Usual.{ap, Bool, _&&_, needs, isRequest, requestEnd}
-use Rattle.monitor.proofs.requests.is_request_end.Statement.{statement}
-use Rattle.monitor.proofs.requests.is_request_end.Tie as tie
+use Rattle.monitor.proofs.replies.is_request_end.Statement.{statement}
+use Rattle.monitor.proofs.replies.is_request_end.Tie as tie
 
 returns : tie.Need-returns
 unfolding requestEnd
