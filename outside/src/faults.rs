@@ -15,6 +15,8 @@ macro_rules! faults {
 
 faults! {
     AlwaysRollsBack,
+    AnyFetchLeavesLink,
+    AnyFetchNamesNoLink,
     ClockGoesBack,
     ClockMovedByUnknownKind,
     ClockMovedByUnknownParty,

@@ -148,15 +148,16 @@ impl Generator {
             (fits, call) = self.plausible(m, party);
         }
         let [kind, a, b, c] = call;
+        let hears = |l: &Link| {
+            let asked = match (kind, b) {
+                (15, 1) => l.kind == Kind::Request && l.open && u32::from(l.originator) == party,
+                _ => l.number == a,
+            };
+            asked && l.state == State::Returned
+        };
         match kind {
             3..=5 => self.heard[party as usize] = false,
-            15 | 18
-                if m.links()
-                    .iter()
-                    .any(|l| l.number == a && l.state == State::Returned) =>
-            {
-                self.heard[party as usize] = true;
-            }
+            15 | 18 if m.links().iter().any(hears) => self.heard[party as usize] = true,
             _ => {}
         }
         [clock, party, kind, a, b, c]
@@ -280,7 +281,7 @@ impl Generator {
         } else {
             kind
         };
-        let meaning = row(kind).map_or(Meaning::Nothing, |row| row.arguments[0]);
+        let [meaning, of_b, _] = row(kind).map_or([Meaning::Nothing; 3], |row| row.arguments);
         let a = match (meaning, self.rng.below(6)) {
             (_, 0) => self.rng.next_u32(),
             (meaning, _) if meaning.is_service() => self.service(),
@@ -288,10 +289,10 @@ impl Generator {
             (Meaning::Timeout, _) => self.rng.pick(&[0, 1, LONGEST_TIMEOUT, LONGEST_TIMEOUT + 1]),
             _ => self.rng.below(4),
         };
-        let b = if self.rng.once_in(8) {
-            self.rng.next_u32()
-        } else {
-            self.rng.below(16)
+        let b = match (of_b, self.rng.below(8)) {
+            (_, 0) => self.rng.next_u32(),
+            (Meaning::AnyReply, _) => self.rng.below(3),
+            _ => self.rng.below(16),
         };
         let c = self.token();
         [party, kind, a, b, c]
@@ -325,8 +326,9 @@ impl Generator {
         // Somebody else's link, or none.
         let number = self.link(m);
         let on_links = KINDS.iter().filter(|row| row.arguments[0] == Meaning::Link);
-        let on_links: Vec<u32> = on_links.map(|row| row.number).collect();
-        add(2, [self.rng.pick(&on_links), number, 0, 5]);
+        let on_links: Vec<&Row> = on_links.collect();
+        let row = self.rng.pick(&on_links);
+        add(2, self.call(&view, row, number));
 
         for row in KINDS.iter().filter(|row| row.tried == Tried::SomeCaller) {
             if self.rng.once_in(5) {
@@ -377,8 +379,14 @@ impl Generator {
     fn call(&mut self, view: &View, row: &Row, link: u32) -> [u32; 4] {
         let [a, b, c] = row.arguments;
         // The flags come before the service.
+        let any = b == Meaning::AnyReply;
         let b = self.argument(view, b, link);
-        let a = self.argument(view, a, link);
+        let a = if any && b == 1 {
+            // It is ignored, so it names any link.
+            self.link(view.m)
+        } else {
+            self.argument(view, a, link)
+        };
         let c = self.argument(view, c, link);
         [row.number, a, b, c]
     }
@@ -431,6 +439,11 @@ impl Generator {
             Meaning::HandOver => match self.rng.below(60) {
                 0 => 2 + self.rng.below(5),
                 1..=30 => 1,
+                _ => 0,
+            },
+            Meaning::AnyReply => match self.rng.below(60) {
+                0 => self.rng.pick(&[2, 3, view.other]),
+                1..=25 => 1,
                 _ => 0,
             },
             Meaning::Result => {

@@ -56,9 +56,19 @@ fn is_past_21(entry: &Entry) -> bool {
     !matches!(code(entry), 19..=21)
 }
 
-/// "A 15, 17, 18 or 19 is on link a."
+/// A 15 that got a reply: "answered 0, 30 or 31".
+fn is_fetched(entry: &Entry) -> bool {
+    kind(entry) == 15 && matches!(code(entry), 0 | 30 | 31)
+}
+
+/// "A 15, 17, 18 or 19 is on link a." A fetch with b = 1, "answered 0, 30 or
+/// 31, is on the link that its value names, whatever its a" (R-1).
 fn link(entry: &Entry) -> Option<i64> {
-    matches!(kind(entry), 15 | 17 | 18 | 19).then(|| i64::from(entry.0[3]))
+    let [_, _, _, a, b, _] = entry.0;
+    if is_fetched(entry) && b == 1 {
+        return Some(value(entry));
+    }
+    matches!(kind(entry), 15 | 17 | 18 | 19).then(|| i64::from(a))
 }
 
 /// "Sends are accepted 17s"
@@ -226,7 +236,7 @@ fn has_unfinished(before: &[Entry], links: &[(i64, u32)]) -> bool {
         !before.iter().any(|entry| {
             link(entry) == Some(d)
                 && match kind(entry) {
-                    15 => matches!(code(entry), 0 | 30 | 31),
+                    15 => is_fetched(entry),
                     17 | 18 => {
                         party(entry) == originator
                             && code(entry) == 29
@@ -424,6 +434,52 @@ mod tests {
         assert_eq!(check_refusals(&h), None);
         h[1].1[5] = 1;
         assert_eq!(check_refusals(&h), Some(Broken::Refusal { at: 1 }));
+    }
+
+    /// Two requests in T, each fetched where any reply will do, and committed.
+    fn any_replies() -> Vec<Entry> {
+        history(&[
+            [0, 0, 1, 0, 0, 0],
+            [0, 1, 1, 0, 0, 0],
+            [0, 1, 10, 5, 0, 0],
+            [0, 0, 3, 0, 0, 0],
+            [0, 0, 12, 5, 0, 7],
+            [0, 0, 12, 5, 0, 7],
+            [0, 1, 14, 0, 0, 0],
+            [0, 1, 20, 1, 0, 6],
+            [0, 0, 15, 9, 1, 0],
+            [0, 0, 15, 2, 1, 0],
+            [0, 1, 14, 0, 0, 0],
+            [0, 1, 20, 1, 0, 6],
+            [0, 0, 15, 1, 1, 0],
+            [0, 0, 4, 0, 0, 0],
+        ])
+    }
+
+    /// A fetch with b = 1 is on the link that its value names, if it gave a
+    /// reply; any other is on a.
+    #[test]
+    fn link_of_a_fetch() {
+        let h = any_replies();
+        let on: Vec<_> = [8, 9, 12].map(|at| link(&h[at])).into();
+        assert_eq!(on, [Some(1), Some(2), Some(2)]);
+        assert_eq!(code(&h[9]), 32);
+        assert_eq!(link(&([0, 0, 15, 7, 1, 0], [30, 4, 0, 0, 0, 0])), Some(4));
+        assert_eq!(link(&([0, 0, 15, 7, 1, 0], [31, 4, 0, 0, 0, 0])), Some(4));
+        assert_eq!(link(&([0, 0, 15, 7, 1, 0], [24, 0, 0, 0, 0, 0])), Some(7));
+        assert_eq!(link(&([0, 0, 15, 7, 0, 0], [0, 0, 0, 0, 0, 0])), Some(7));
+        assert_eq!(link(&([0, 0, 17, 7, 1, 0], [0, 0, 0, 0, 0, 0])), Some(7));
+        assert_eq!(check(&h), None);
+        // By a alone request 2, or request 1, would be unfinished.
+        for at in [8, 12] {
+            let mut h = h.clone();
+            h[at].0[4] = 0;
+            h[at].0[3] = 9;
+            assert_eq!(check(&h), Some(Broken::WronglyCommitted { commit: 13 }));
+            h[at].0[4] = 1;
+            h[at].1[1] = 0;
+            assert_eq!(check(&h), Some(Broken::WronglyCommitted { commit: 13 }));
+        }
     }
 
     /// The bought monitor's mistake: the commit after disconnect and fall.

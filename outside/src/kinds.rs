@@ -2,6 +2,7 @@
 //! counted of random calls is measured by it.
 
 use std::collections::BTreeMap;
+use std::fmt;
 
 /// What an argument means; the generator makes numbers by it.
 #[derive(Clone, Copy, PartialEq, Eq)]
@@ -22,6 +23,8 @@ pub enum Meaning {
     /// The number of a link.
     Link,
     HandOver,
+    /// 1 where any reply will do, 0 for the one to request a.
+    AnyReply,
     /// How a service ends.
     Result,
     Token,
@@ -107,6 +110,8 @@ pub struct Row {
     pub codes: &'static [i64],
     /// The codes that come with an event, and the event.
     pub events: &'static [(i64, i64)],
+    /// The codes that come where b asks for any reply; `codes` has the others.
+    pub any_codes: &'static [i64],
 }
 
 impl Row {
@@ -132,6 +137,7 @@ const PLAIN: Row = Row {
     moods: &[],
     codes: &[0],
     events: &[],
+    any_codes: &[],
 };
 
 /// The kinds, in rising number from 1.
@@ -262,10 +268,11 @@ pub const KINDS: &[Row] = {
         Row {
             number: 15,
             word: "fetch",
-            arguments: [Link, Nothing, Nothing],
+            arguments: [Link, AnyReply, Nothing],
             tried: Tried::Request,
             weights: &[(Unfit, 2), (Fit, 40)],
-            codes: &[0, 24, 28, 30, 31, 32],
+            codes: &[0, 22, 24, 28, 30, 31, 32],
+            any_codes: &[0, 24, 28, 30, 31, 32],
             ..PLAIN
         },
         Row {
@@ -286,6 +293,7 @@ pub const KINDS: &[Row] = {
             moods: &[(Talk, Fit, 30), (Talk, More, 9)],
             codes: &[0, 22, 23, 24, 28, 32],
             events: &[(29, 1), (29, 2), (29, 4)],
+            ..PLAIN
         },
         Row {
             number: 18,
@@ -296,6 +304,7 @@ pub const KINDS: &[Row] = {
             moods: &[(Talk, News, 42), (Talk, Fit, 42)],
             codes: &[0, 23, 24, 28, 32],
             events: &[(29, 1), (29, 2), (29, 4), (29, 8), (29, 32)],
+            ..PLAIN
         },
         Row {
             number: 19,
@@ -332,29 +341,55 @@ pub fn row(kind: u32) -> Option<&'static Row> {
     KINDS.get((kind as usize).checked_sub(1)?)
 }
 
-/// Kind (0 for one that there is not), code and event.
-pub type Triple = (u32, i64, i64);
+/// A kind as it is counted.
+#[derive(Clone, Copy, Debug, PartialEq, Eq, PartialOrd, Ord)]
+pub struct Form {
+    /// 0 for one that there is not.
+    pub kind: u32,
+    /// Whether any reply was asked for, past question 21.
+    pub any: bool,
+}
+
+impl Form {
+    const fn plain(kind: u32) -> Self {
+        Form { kind, any: false }
+    }
+}
+
+impl fmt::Display for Form {
+    fn fmt(&self, f: &mut fmt::Formatter) -> fmt::Result {
+        let b = if self.any { ", b = 1" } else { "" };
+        f.pad(&format!("{}{b}", self.kind))
+    }
+}
+
+/// Form, code and event.
+pub type Triple = (Form, i64, i64);
 
 /// How often each triple came.
 pub type Counts = BTreeMap<Triple, u64>;
 
 /// Counts one call.
 pub fn count(counts: &mut Counts, call: [u32; 6], answer: [i64; 6]) {
-    let kind = row(call[2]).map_or(0, |row| row.number);
-    *counts.entry((kind, answer[0], answer[2])).or_insert(0) += 1;
+    let [_, _, kind, _, b, _] = call;
+    let [code, _, event, ..] = answer;
+    let form = row(kind).map_or(Form::plain(0), |row| Form {
+        kind,
+        any: row.arguments[1] == Meaning::AnyReply && b == 1 && code != 21,
+    });
+    *counts.entry((form, code, event)).or_insert(0) += 1;
 }
 
 /// The triples that can come in a list from a fresh monitor.
 pub fn possible() -> Vec<Triple> {
-    let mut all = vec![(0, 20, 0)];
+    let mut all = vec![(Form::plain(0), 20, 0)];
     for row in KINDS {
-        all.push((row.number, 21, 0));
-        all.extend(row.codes.iter().map(|&code| (row.number, code, 0)));
-        all.extend(
-            row.events
-                .iter()
-                .map(|&(code, event)| (row.number, code, event)),
-        );
+        let kind = row.number;
+        let (plain, any) = (Form::plain(kind), Form { kind, any: true });
+        all.push((plain, 21, 0));
+        all.extend(row.codes.iter().map(|&code| (plain, code, 0)));
+        all.extend(row.events.iter().map(|&(code, event)| (plain, code, event)));
+        all.extend(row.any_codes.iter().map(|&code| (any, code, 0)));
     }
     all.sort_unstable();
     all

@@ -670,7 +670,8 @@ impl Monitor {
             .ok_or(24)
     }
 
-    fn fetch(&mut self, p: usize, a: u32) -> Decision {
+    /// The place of the reply to request a.
+    fn reply_to(&mut self, p: usize, a: u32) -> Result<usize, i64> {
         let i = self.open_end(p, Kind::Request, a)?;
         let link = self.links[i];
         ask(!self.is_expired(link.transaction), 28)?;
@@ -678,7 +679,32 @@ impl Monitor {
             self.remove_link(i);
         }
         ask(link.state == State::Returned, 32)?;
-        if !is_on(Fault::FetchLeavesLink) {
+        Ok(i)
+    }
+
+    /// The place of the reply to the lowest-numbered returned request.
+    fn any_reply(&self, p: usize) -> Result<usize, i64> {
+        let is_own = |link: &Link| link.kind == Kind::Request && link.is_open_end_of(p);
+        let own = || self.links().iter().filter(|link| is_own(link));
+        ask(own().next().is_some(), 24)?;
+        ask(own().all(|link| !self.is_expired(link.transaction)), 28)?;
+        self.links()
+            .iter()
+            .position(|link| is_own(link) && link.state == State::Returned)
+            .ok_or(32)
+    }
+
+    fn fetch(&mut self, p: usize, a: u32, b: u32) -> Decision {
+        ask(b <= 1, 22)?;
+        let any = b == 1;
+        let i = if any {
+            self.any_reply(p)?
+        } else {
+            self.reply_to(p, a)?
+        };
+        let link = self.links[i];
+        let stays = is_on(Fault::FetchLeavesLink) || (any && is_on(Fault::AnyFetchLeavesLink));
+        if !stays {
             self.remove_link(i);
         }
         let code = match link.outcome {
@@ -686,8 +712,10 @@ impl Monitor {
             FAIL => 30,
             _ => 31,
         };
+        let named = any && !is_on(Fault::AnyFetchNamesNoLink);
         Ok(Reply {
             code,
+            value: if named { link.number } else { 0 },
             token: link.ending_token,
             ..Reply::default()
         })
@@ -875,7 +903,7 @@ impl Monitor {
             12 => self.originate(p, Kind::Request, a, b, c),
             13 => self.originate(p, Kind::Conversation, a, b, c),
             14 => self.take(p),
-            15 => self.fetch(p, a),
+            15 => self.fetch(p, a, b),
             16 => self.cancel(p, a),
             17 => self.send(p, a, b, c),
             18 => self.receive(p, a),
@@ -1143,6 +1171,158 @@ mod tests {
             ([0, 0, 6, 0, 0, 0], [1, 0, 0, 0, 0, 2]),
             ([0, 0, 4, 0, 0, 0], [0, 0, 0, 0, 0, 3]),
         ]);
+    }
+
+    /// Requests 1 to 3 of party 0 for service 5, no transaction; parties 1 and 2
+    /// offer it and serve requests 1 and 2.
+    fn two_served() -> Monitor {
+        let mut m = Monitor::fresh();
+        let calls = [
+            [0, 1, 1, 0, 0, 0],
+            [0, 2, 1, 0, 0, 0],
+            [0, 1, 10, 5, 0, 0],
+            [0, 2, 10, 5, 0, 0],
+            [0, 0, 12, 5, 0, 7],
+            [0, 0, 12, 5, 0, 7],
+            [0, 0, 12, 5, 0, 7],
+            [0, 1, 14, 0, 0, 0],
+            [0, 2, 14, 0, 0, 0],
+        ];
+        assert_eq!(codes(&mut m, &calls), [0; 9]);
+        m
+    }
+
+    /// Any reply, as they come: a is ignored, the value names the request.
+    #[test]
+    fn any_reply() {
+        let mut m = two_served();
+        let script = [
+            ([0, 0, 15, 2, 1, 0], [32, 0, 0, 0, 0, 0]),
+            ([0, 2, 20, 1, 0, 9], [0, 8, 0, 0, 0, 0]),
+            ([0, 0, 15, 1, 1, 0], [0, 2, 0, 9, 0, 0]),
+            ([0, 0, 15, 2, 1, 0], [32, 0, 0, 0, 0, 0]),
+            ([0, 2, 14, 0, 0, 0], [0, 3, 64, 7, 5, 0]),
+            ([0, 2, 21, 0, 0, 0], [0, 2, 0, 0, 0, 0]),
+            ([0, 1, 20, 2, 0, 8], [0, 4, 0, 0, 0, 0]),
+            ([0, 3, 15, 1, 1, 0], [24, 0, 0, 0, 0, 0]),
+            ([0, 0, 15, 3, 1, 0], [30, 1, 0, 8, 0, 0]),
+            ([0, 0, 15, 0, 1, 0], [31, 3, 0, 0, 0, 0]),
+            ([0, 0, 15, 3, 1, 0], [24, 0, 0, 0, 0, 0]),
+        ];
+        for (call, answer) in script {
+            assert_eq!(step(&mut m, call), answer, "{call:?}");
+        }
+        assert_eq!(m.link_count, 0);
+    }
+
+    /// A b above 1 is refused before anything else of a fetch is asked.
+    #[test]
+    fn fetch_with_another_b() {
+        let mut m = two_served();
+        step(&mut m, [0, 1, 20, 1, 0, 9]);
+        for b in [2, 3, u32::MAX] {
+            for (party, a) in [(0, 1), (0, 2), (0, 99), (7, 1)] {
+                assert_eq!(step(&mut m, [0, party, 15, a, b, 0])[0], 22);
+            }
+            assert_eq!(step(&mut m, [0, 16, 15, 1, b, 0])[0], 21);
+        }
+        assert_eq!(step(&mut m, [0, 0, 15, 1, 0, 0]), [0, 0, 0, 9, 0, 0]);
+    }
+
+    /// Conversations, closed ends and other parties' requests are none to ask.
+    #[test]
+    fn no_end_for_any_reply() {
+        let mut m = two_served();
+        let calls = [
+            [0, 0, 16, 1, 0, 0],
+            [0, 0, 16, 2, 0, 0],
+            [0, 0, 16, 3, 0, 0],
+            [0, 0, 12, 5, 1, 7],
+            [0, 0, 13, 5, 4, 7],
+            [0, 3, 12, 5, 0, 7],
+            [0, 1, 20, 1, 0, 9],
+        ];
+        assert_eq!(codes(&mut m, &calls), [0; 7]);
+        assert_eq!(step(&mut m, [0, 0, 15, 1, 1, 0])[0], 24);
+        assert_eq!(step(&mut m, [0, 3, 15, 1, 1, 0])[0], 32);
+    }
+
+    /// An expired transaction of one request stands in the way of all; an ended
+    /// one, of which a record may hold a request, does not.
+    #[test]
+    fn any_reply_and_deadlines() {
+        let mut m = two_served();
+        let calls = [
+            [0, 1, 20, 1, 0, 9],
+            [0, 0, 1, 0, 0, 0],
+            [0, 0, 9, 10, 0, 0],
+            [5, 0, 3, 0, 0, 0],
+            [5, 0, 12, 5, 0, 7],
+        ];
+        assert_eq!(codes(&mut m, &calls[..4]), [0; 4]);
+        // The caller's transaction alone is not asked about.
+        assert_eq!(step(&mut m.clone(), [15, 0, 15, 4, 1, 0])[0], 0);
+        assert_eq!(codes(&mut m, &calls[4..]), [0]);
+        let mut ended = m.clone();
+        ended.parties[0].owned = 0;
+        for (mut m, clock, code) in [(m.clone(), 14, 0), (m.clone(), 15, 28), (ended, 15, 0)] {
+            assert_eq!(step(&mut m, [clock, 0, 15, 4, 1, 0])[0], code);
+        }
+        assert_eq!(step(&mut m, [15, 0, 15, 1, 0, 0])[0], 0);
+        // Nothing is returned any more, but 28 is asked first.
+        assert_eq!(step(&mut m, [15, 0, 15, 2, 1, 0])[0], 28);
+        assert_eq!(step(&mut m, [15, 0, 15, 2, 0, 0])[0], 32);
+    }
+
+    /// An expired conversation of the caller's does not stand in the way.
+    #[test]
+    fn any_reply_beside_expired_conversation() {
+        let mut m = Monitor::fresh();
+        let calls = [
+            [0, 0, 1, 0, 0, 0],
+            [0, 1, 1, 0, 0, 0],
+            [0, 1, 10, 5, 0, 0],
+            [0, 0, 9, 10, 0, 0],
+            [5, 0, 3, 0, 0, 0],
+            [5, 0, 13, 5, 4, 0],
+            [5, 0, 12, 5, 2, 17],
+            [5, 1, 14, 0, 0, 0],
+            [5, 2, 1, 0, 0, 0],
+            [5, 2, 10, 5, 0, 0],
+            [5, 2, 14, 0, 0, 0],
+            [6, 2, 20, 1, 0, 18],
+        ];
+        assert_eq!(codes(&mut m, &calls), [0; 12]);
+        assert_eq!(step(&mut m, [15, 0, 18, 1, 0, 0])[0], 28);
+        assert_eq!(step(&mut m, [15, 0, 15, 1, 1, 0]), [0, 2, 0, 18, 0, 1]);
+    }
+
+    /// Nor does an expired request whose end the caller's return closed.
+    #[test]
+    fn any_reply_beside_expired_closed_end() {
+        let mut m = Monitor::fresh();
+        let calls = [
+            [0, 0, 1, 0, 0, 0],
+            [0, 1, 1, 0, 0, 0],
+            [0, 2, 1, 0, 0, 0],
+            [0, 3, 1, 0, 0, 0],
+            [0, 1, 10, 5, 0, 0],
+            [0, 2, 10, 6, 0, 0],
+            [0, 3, 10, 7, 0, 0],
+            [0, 0, 9, 10, 0, 0],
+            [5, 0, 3, 0, 0, 0],
+            [5, 0, 12, 5, 0, 1],
+            [5, 1, 14, 0, 0, 0],
+            [5, 1, 12, 6, 0, 2],
+            [5, 2, 14, 0, 0, 0],
+            [5, 1, 20, 1, 0, 0],
+            [5, 1, 12, 7, 0, 3],
+            [5, 3, 14, 0, 0, 0],
+            [5, 3, 20, 1, 0, 9],
+        ];
+        assert_eq!(codes(&mut m, &calls), [0; 17]);
+        assert_eq!(step(&mut m, [15, 0, 15, 1, 1, 0])[0], 28);
+        assert_eq!(step(&mut m, [15, 1, 15, 2, 1, 0]), [0, 3, 0, 9, 0, 0]);
     }
 
     #[test]

@@ -3,8 +3,9 @@
 //!
 //! Also asked: a step keeps a record sound; a refusal changes nothing but the
 //! clock (and up to question 21 nothing at all) and has zeros beside its number
-//! and T; a list does what its calls do; a drill file is read as written; and
-//! the same on records no list reaches, made by changing fields at random.
+//! and T; a fetch of any reply is told by fetches by number; a list does what
+//! its calls do; a drill file is read as written; and the same on records no
+//! list reaches, made by changing fields at random.
 
 use outside::drill;
 use outside::generator::{self, Generator, Rng};
@@ -24,6 +25,8 @@ struct Tally {
     committed: u64,
     committed_with_links: u64,
     committed_with_others_links: u64,
+    /// A fetch of any reply finished a link of the transaction.
+    committed_with_any_fetch: u64,
     rolled_back: u64,
     only_failed_end: u64,
     /// A disconnected link is unfinished for good, so both come together.
@@ -125,7 +128,52 @@ fn check_step(
     if t != own {
         return fail("last field");
     }
+    if !malformed && (call[2], call[4]) == (15, 1) {
+        return check_any_fetch(before, after, call, answer);
+    }
     Ok(())
+}
+
+/// A fetch of any reply, from fetches by number: the answer and record of the
+/// first that gives a reply, with its number as value, unless one is 28.
+fn check_any_fetch(
+    before: &Monitor,
+    after: &Monitor,
+    call: [u32; 6],
+    answer: [i64; 6],
+) -> Result<(), String> {
+    let [clock, party, _, _, _, c] = call;
+    let by_number: Vec<(u32, [i64; 6], Monitor)> = before
+        .links()
+        .iter()
+        .map(|link| {
+            let mut m = before.clone();
+            let answer = step(&mut m, [clock, party, 15, link.number, 0, c]);
+            (link.number, answer, m)
+        })
+        .filter(|(_, answer, _)| answer[0] != 24)
+        .collect();
+    let came = |code| by_number.iter().any(|(_, answer, _)| answer[0] == code);
+    let reply = by_number.iter().find(|(_, answer, _)| answer[0] != 32);
+    let good = match (answer[0], reply) {
+        (24, _) => by_number.is_empty(),
+        (28, _) => came(28),
+        (32, None) => !by_number.is_empty(),
+        (_, Some((number, same, m))) => {
+            let [code, _, event, token, service, t] = *same;
+            !came(28)
+                && answer == [code, i64::from(*number), event, token, service, t]
+                && equal_with_tokens(m, after)
+        }
+        (_, None) => false,
+    };
+    if good {
+        Ok(())
+    } else {
+        Err(format!(
+            "a fetch of any reply: call {call:?} answer {answer:?} before {before:?}"
+        ))
+    }
 }
 
 /// Adds to the tally from a history's commits and turns.
@@ -151,6 +199,11 @@ fn tally_history(entries: &[Entry], from: usize, tally: &mut Tally) {
                 .iter()
                 .any(|&(_, originator)| originator != call[1]);
             tally.committed_with_others_links += u64::from(others);
+            let any_fetch = entries[..at].iter().any(|(call, answer)| {
+                (call[2], call[4], answer[0]) == (15, 1, 0)
+                    && commit.links.iter().any(|&(d, _)| d == answer[1])
+            });
+            tally.committed_with_any_fetch += u64::from(any_fetch);
             continue;
         }
         tally.rolled_back += 1;

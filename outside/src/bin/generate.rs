@@ -6,7 +6,7 @@
 
 use outside::drill;
 use outside::generator;
-use outside::kinds::{self, Counts, LAST_KIND};
+use outside::kinds::{self, Counts, Form, LAST_KIND};
 use std::io::{self, BufWriter, Write};
 use std::process::ExitCode;
 
@@ -46,8 +46,8 @@ impl File {
 }
 
 /// A kind's word before a remark.
-fn word(kind: u32) -> String {
-    kinds::row(kind).map_or_else(String::new, |row| format!("{}: ", row.word))
+fn word(form: &Form) -> String {
+    kinds::row(form.kind).map_or_else(String::new, |row| format!("{}: ", row.word))
 }
 
 fn coverage(seed: u64, target: u64) -> io::Result<()> {
@@ -70,25 +70,25 @@ fn coverage(seed: u64, target: u64) -> io::Result<()> {
     let mut out = BufWriter::new(io::stdout().lock());
     writeln!(
         out,
-        "kind  code event      count   (kind 0: outside 1 to {LAST_KIND})"
+        "     kind  code event      count   (kind 0: outside 1 to {LAST_KIND})"
     )?;
     for (triple, count) in &counts {
-        let (kind, code, event) = triple;
+        let (form, code, event) = triple;
         let mark = if possible.contains(triple) {
             String::new()
         } else {
-            format!("   {}not held possible", word(*kind))
+            format!("   {}not held possible", word(form))
         };
-        writeln!(out, "{kind:4} {code:5} {event:5} {count:10}{mark}")?;
+        writeln!(out, "{form:>9} {code:5} {event:5} {count:10}{mark}")?;
     }
-    for (kind, code, event) in possible
+    for (form, code, event) in possible
         .iter()
         .filter(|triple| !counts.contains_key(triple))
     {
         writeln!(
             out,
-            "{kind:4} {code:5} {event:5}          0   {}possible, never seen",
-            word(*kind)
+            "{form:>9} {code:5} {event:5}          0   {}possible, never seen",
+            word(form)
         )?;
     }
     let seen = possible

@@ -66,7 +66,7 @@ fn full(calls: usize) -> Calls {
         let link = 1 + rng.below(10);
         match rng.below(6) {
             0 => list.extend([[9, 0, 17, link, 0, 7], [9, link, 18, link, 0, 0]]),
-            1 => list.push([9, 0, 15, 11 + rng.below(22), 0, 0]),
+            1 => list.push([9, 0, 15, 11 + rng.below(22), rng.below(2), 0]),
             2 => list.push([9, 0, 12, 1, 0, 7]),
             3 => list.push([9, link, 6, 0, 0, 0]),
             4 => list.push([9, 0, 18, link, 0, 0]),
