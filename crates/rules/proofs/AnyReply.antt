@@ -26,7 +26,7 @@ use Rattle.rules.proofs.Fine.{noLink, look, Between, Shape, Frame}
 use Rattle.rules.proofs.Looks.{look-there, look-cases, linkOf-look, look-linkOf, any-none, any-some, any-one}
 use Rattle.rules.proofs.Changes.{live-length, first-fits, first-look}
 use Rattle.rules.proofs.Sound.{sound-fine, clock-fine}
-use Rattle.rules.proofs.History.Walk.Replies.{replied-end, replied-returned}
+use Rattle.rules.proofs.History.Walk.Replies.{requestEnd-none, replied-end, replied-returned}
 
 -- ---- the first of a list with rising numbers that passes a test is the lowest that does
 look-not-below : (f : Link → Bool) → f noLink ≡ false → (lo hi d : ℕ) (ls : List Link) → Between lo ls hi → f (look d ls) ≡ true → lo < d
@@ -50,10 +50,6 @@ replied-none p = refl
 replied-fresh : (p : ℕ) → repliedEnd p freshLink ≡ false
 unfolding repliedEnd requestEnd ownEnd
 replied-fresh p = refl
-
-end-none : (p : ℕ) → requestEnd p noLink ≡ false
-unfolding requestEnd ownEnd noLink
-end-none p = refl
 
 expired-none : (m : Monitor) (p : ℕ) → expiredEnd m p noLink ≡ false
 unfolding expiredEnd requestEnd ownEnd noLink
@@ -149,7 +145,7 @@ module _ (m : Monitor) (fr : Frame m) (p : ℕ) where
   unfolding fetchOf fetchAny fetched
   reply-given a d r n =
       let e = rw (linkOf-look m (repliedEnd p) (replied-fresh p) d r) at r in
-      let some = any-one (requestEnd p) (end-none p) d (live m) (replied-end p _ e) in
+      let some = any-one (requestEnd p) (requestEnd-none p) d (live m) (replied-end p _ e) in
       let room : nextReply m p < m .count = rw (live-length m fr) at (first-in (repliedEnd p) (replied-none p) d (live m) e) in
       subst (λ (x : Ruled). isReply (x .code) ≡ true)
       (sym (pick-true _ _ _ refl ∙ pick-true _ _ _ refl ∙ pick-true _ _ _ some ∙ pick-true _ _ _ (none-expired n) ∙ pick-true _ _ _ (lt-ltb _ _ room)))

@@ -33,7 +33,7 @@ requestEnd-fresh : (p : ℕ) → requestEnd p freshLink ≡ false
 unfolding requestEnd ownEnd
 requestEnd-fresh p = refl
 
-requestEnd-none : (p : ℕ) → requestEnd p noLink ≡ false
+pub requestEnd-none : (p : ℕ) → requestEnd p noLink ≡ false
 unfolding requestEnd ownEnd noLink
 requestEnd-none p = refl
 
