@@ -92,8 +92,8 @@ dying =
     ∷ []
 
 -- a commit with a request that waits, one with a reply not fetched, and one after the fetch
-abbrev pub unfinished : List Row
-unfinished =
+abbrev pub repliesLeft : List Row
+repliesLeft =
     row 1 0 txOpen 0 0 0 (pos 0) 0 0 0 0 0
     ∷ row 1 1 txOpen 0 0 0 (pos 0) 0 0 0 0 0
     ∷ row 1 1 tpadvertise 7 0 0 (pos 0) 1 0 0 0 0
@@ -176,7 +176,7 @@ stillAtWork =
 
 -- ---- the tables
 abbrev pub real : List (List Row)
-real = nested ∷ failing ∷ negligent ∷ dying ∷ unfinished ∷ outside ∷ refusedReturn ∷ stillAtWork ∷ []
+real = nested ∷ failing ∷ negligent ∷ dying ∷ repliesLeft ∷ outside ∷ refusedReturn ∷ stillAtWork ∷ []
 
 abbrev pub spoilt : List Spoilt
 spoilt =
@@ -201,11 +201,11 @@ spoilt =
     -- rolled back for the work that the owner left behind as it died
     ∷ breaks commit (coded 18 (negsuc 1) dying)
     -- committed with a request that nobody has taken
-    ∷ breaks commit (coded 5 (pos 0) unfinished)
+    ∷ breaks commit (coded 5 (pos 0) repliesLeft)
     -- committed with a reply that was not fetched
-    ∷ breaks commit (coded 10 (pos 0) unfinished)
+    ∷ breaks commit (coded 10 (pos 0) repliesLeft)
     -- rolled back with all fetched
-    ∷ breaks commit (coded 16 (negsuc 1) unfinished)
+    ∷ breaks commit (coded 16 (negsuc 1) repliesLeft)
     -- rolled back for requests outside the transaction
     ∷ breaks commit (coded 25 (negsuc 1) outside)
     -- committed, though the open and failed request is of the transaction

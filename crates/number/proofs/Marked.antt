@@ -95,9 +95,9 @@ unfolding writtenSo
 written-so (number v n) bytes t value next e = let same : v ≡ value = cc in rw (← same) (same-bytes (numberBytes 5 v) bytes t)
 written-so (refused c) bytes t value next e = let z : _≡_ {A = ℕ} 0 1 = cc in absurd (omega arith)
 
-holds : (e : Example) → T (right e) → Holds e
+example-holds : (e : Example) → T (right e) → Holds e
 unfolding right
-holds e t =
+example-holds e t =
     let read : Bool = sameReading (readNumber 5 32 (e .bytes) 0) (e .tells) in
     let wrote : Bool = writtenSo (e .tells) (e .bytes) in
     record { reads = same-reading _ _ (both-left read wrote t); writes = written-so (e .tells) (e .bytes) (both-right read wrote t) }
@@ -105,7 +105,7 @@ holds e t =
 table-holds : (es : List Example) → T (every es) → (k : ℕ) → k < length es → Holds (getD es k superfluousZero)
 unfolding every
 table-holds [] t k h = absurd (not-suc-le-zero h)
-table-holds (e ∷ es) t zero h = holds e (both-left (right e) (every es) t)
+table-holds (e ∷ es) t zero h = example-holds e (both-left (right e) (every es) t)
 table-holds (e ∷ es) t (suc k) h = table-holds es (both-right (right e) (every es) t) k (le-of-suc-le-suc h)
 
 pub marked-holds : (k : ℕ) → k < length marked → Holds (getD marked k superfluousZero)

@@ -36,11 +36,11 @@ answer c =
     asked _ _ (r .ensures) (c .before .before .link-tx .ensures) z
 
 -- past them, the link is there
-told : (c : tie.After-no-reply) {v : ℕ} {r : Told} → let s = c .before .before .before .before .before .before .before .before .before .before .before .before .before .args in
+link-told : (c : tie.After-no-reply) {v : ℕ} {r : Told} → let s = c .before .before .before .before .before .before .before .before .before .before .before .before .before .args in
     let m = view (s .s .now) in
     v ≡ pick (noReply (s .b)) 0 (m .lastlink + 1) → r ≡ toldValue v → ruledBy r (view (c .before .open-link .last .0)) ≡ requestOf m (s .p) (s .a) (s .b) (s .c)
 unfolding requestOf
-told c v r =
+link-told c v r =
     let answered = c .before .before .before .before .before in
     let first = answered .before .before .before .before in
     let a = first .before .before .before .before .args in
@@ -72,13 +72,13 @@ returns-3 : tie.Need-returns-3
 returns-3 c =
     let n = c .before .before in
     let v = sym (pick-true _ _ _ (sym (n .no-reply .ensures) ∙ c .before .if3 .taken)) in
-    (told n v (c .accept .ensures), n .before .open-link .ensures .2)
+    (link-told n v (c .accept .ensures), n .before .open-link .ensures .2)
 
 returns-4 : tie.Need-returns-4
 returns-4 c =
     let n = c .before .before in
     let v = n .before .open-link .ensures .0 ∙ sym (pick-false _ _ _ (sym (n .no-reply .ensures) ∙ c .before .if3 .left)) in
-    (told n v (c .accept2 .ensures), n .before .open-link .ensures .2)
+    (link-told n v (c .accept2 .ensures), n .before .open-link .ensures .2)
 
 pub tpacall-spec : {M : Type 1} → statement M
 tpacall-spec =
