@@ -1,4 +1,4 @@
--- Fetches of whichever reply is there: histories whose answers the outside implementation made, and the same ones altered, spoilt or harmless.
+-- Fetches of whichever reply is there: histories, written by hand and answered so by the outside implementation, and the same ones altered, spoilt or harmless.
 -- Assumes nothing.
 use mathlib.Core.List.{List, [], _∷_}
 use lib.IntN.{pos, negsuc}
