@@ -29,7 +29,7 @@ use Rattle.rules.specs.Run
 use Rattle.rules.specs.Run.{Listed, callAt, ranOf, answersOf, listOf}
 use Rattle.rules.specs.History.{sameCode}
 use Rattle.rules.proofs.Logic.{and-l, and-r}
-use Rattle.rules.proofs.Codes.{same-code}
+use Rattle.rules.proofs.AnswerCodes.{same-code}
 use Rattle.rules.proofs.Tables.{every, entry, samePlaces, same-places}
 use Rattle.histories.proofs.Rows.{Row, numbersOf, placesOf}
 use Rattle.histories.proofs.Deaths.{diesAfterDisconnect, diesBeforeDisconnect, learnsOfDeath}

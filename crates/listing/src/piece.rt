@@ -5,8 +5,8 @@ ghost use Rattle.listing.specs.Piece.{shown, listedOf};
 use super::text::put_lines;
 use super::text::put_refusal;
 use monitor::Store;
-use monitor::codes;
 use monitor::run_piece;
+use rules::codes;
 
 // What a piece gives: the record after its calls, how many of its bytes those took, how many bytes of text they made, and the code that ended it:
 // 0 where it may go on, 16 where the text's buffer is too short, else the refusal.

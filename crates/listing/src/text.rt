@@ -5,7 +5,7 @@ ghost use lib.IntN.{natAbs, pos};
 ghost use lib.ListN.{length, drop, getD};
 ghost use lib.Seq.{sets};
 ghost use Rattle.listing.specs.Text.{decimal, field, lineOf, linesOf, refusalLine};
-use monitor::codes;
+use rules::codes;
 
 // A number's decimal digits.
 fn put_digits(out: &mut [u8], at: usize, n: u64) -> usize

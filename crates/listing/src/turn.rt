@@ -7,7 +7,7 @@ ghost use Rattle.monitor.specs.View.{view};
 ghost use Rattle.listing.specs.Turn.{turned, atFront, turnedOf};
 use super::piece::list_piece;
 use monitor::Store;
-use monitor::codes;
+use rules::codes;
 
 // The lesser of two numbers.
 fn least(a: usize, b: usize) -> usize

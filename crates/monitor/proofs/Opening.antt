@@ -17,7 +17,7 @@ use Rattle.rules.specs.Services.{offers}
 use Rattle.rules.specs.Transaction.{ended, expired}
 use Rattle.rules.specs.declared.Monitor.{Monitor}
 use Rattle.rules.specs.declared.Ruled.{Ruled}
-use Rattle.rules.proofs.Codes.{codes-differ}
+use Rattle.rules.proofs.AnswerCodes.{codes-differ}
 use Rattle.rules.proofs.Logic.{pick-true, pick-false, and-l, and-r}
 use Rattle.monitor.specs.declared.Told.{Told}
 use Rattle.monitor.specs.View.{ruledBy, toldCode}

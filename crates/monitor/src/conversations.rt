@@ -8,7 +8,6 @@ ghost use Rattle.rules.specs.Conversations.{tellsReturn, sendOn, sendOf, carrie
 ghost use Rattle.monitor.specs.Words.{words};
 ghost use Rattle.monitor.specs.View.{view, ruledBy};
 use super::Told;
-use super::codes;
 use super::links::accept;
 use super::links::coded;
 use super::links::disconnect_link;
@@ -22,6 +21,7 @@ use super::words::count;
 use super::words::link_at;
 use super::words::put_link;
 use rules::Link;
+use rules::codes;
 
 // Is it an open conversation end of party p's, as its originator?
 pub(crate) fn is_originator_end(p: usize, l: Link) -> bool

@@ -9,7 +9,7 @@ ghost use Rattle.rules.specs.Sound.{sound};
 ghost use Rattle.monitor.specs.Words.{words};
 ghost use Rattle.monitor.specs.View.{view};
 ghost use Rattle.monitor.specs.File.{readCall, found, passed, pieceRun, pieceOf, fileOf, fileCalls, fileBytes, written, writeAnswer, writeBuffer};
-use super::codes;
+use rules::codes;
 use super::run::put;
 use super::sound::is_sound_in;
 use super::steps::call_on;

@@ -1,6 +1,5 @@
 // The running monitor: its record as words that are lent and changed in place; one call, a list of calls, drill files, soundness, equality,
 // each equal to its definition in the crate rules.
-pub mod codes;
 mod conversations;
 mod entry;
 mod equality;

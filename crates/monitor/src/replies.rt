@@ -9,7 +9,6 @@ ghost use Rattle.rules.specs.Replies.{cancelled, cancelOf};
 ghost use Rattle.monitor.specs.Words.{words};
 ghost use Rattle.monitor.specs.View.{view, linkIn, ruledBy};
 use super::Told;
-use super::codes;
 use super::links::accept;
 use super::links::close_end;
 use super::links::coded;
@@ -27,6 +26,7 @@ use super::words::put_link;
 use super::words::state_at;
 use super::words::tx_at;
 use rules::Link;
+use rules::codes;
 
 pub(crate) fn is_request_end(p: usize, l: Link) -> bool
     ensures { λ r. ⌜ r ≡ requestEnd p l ⌝ }

@@ -9,7 +9,6 @@ ghost use Rattle.rules.specs.Requests.{dispatchEvent, dispatched, nextWaiting, 
 ghost use Rattle.monitor.specs.Words.{words};
 ghost use Rattle.monitor.specs.View.{view, ruledBy};
 use super::Told;
-use super::codes;
 use super::links::accept;
 use super::links::coded;
 use super::links::has_own_end;
@@ -30,6 +29,7 @@ use super::words::put_party;
 use rules::Link;
 use rules::Monitor;
 use rules::Party;
+use rules::codes;
 
 // The flags of a request: TPNOREPLY and TPNOTRAN; of a connect: TPNOTRAN, TPSENDONLY, TPRECVONLY.
 pub(crate) fn no_reply(b: u32) -> bool

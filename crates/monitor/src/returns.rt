@@ -7,7 +7,6 @@ ghost use Rattle.rules.specs.Return.{plainOutcome, outcomeOf, unreadAfter, clos
 ghost use Rattle.monitor.specs.Words.{words};
 ghost use Rattle.monitor.specs.View.{view, ruledBy};
 use super::Told;
-use super::codes;
 use super::links::accept;
 use super::links::change_at;
 use super::links::close_end;
@@ -34,6 +33,7 @@ use super::words::put_party;
 use super::words::served_at;
 use rules::Link;
 use rules::Party;
+use rules::codes;
 
 // Is the server the sender, with no grant under way?
 pub(crate) fn is_server_free(l: Link) -> bool

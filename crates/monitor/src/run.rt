@@ -9,13 +9,13 @@ ghost use Rattle.rules.specs.Run.{callAt, placesOf, ranOf, answersOf, listed, l
 ghost use Rattle.monitor.specs.Words.{words};
 ghost use Rattle.monitor.specs.View.{view};
 use super::Ran;
-use super::codes;
 use super::sound::is_sound_in;
 use super::steps::call_on;
 use super::words::Store;
 use super::words::WORDS;
 use rules::Answer;
 use rules::Call;
+use rules::codes;
 
 // The call that starts at a place of the list.
 pub(crate) fn call_at(calls: &[u32], at: usize) -> Call

@@ -7,7 +7,6 @@ ghost use Rattle.rules.specs.Record.{live};
 ghost use Rattle.rules.specs.Sound.{linkGood, linksGood, choicesGood, partiesGood, sound};
 ghost use Rattle.monitor.specs.Served.{FoundAll};
 ghost use Rattle.monitor.specs.View.{view};
-use super::codes;
 use super::words::Store;
 use super::words::WORDS;
 use super::words::count;
@@ -19,6 +18,7 @@ use super::words::served_at;
 use rules::Link;
 use rules::Monitor;
 use rules::Party;
+use rules::codes;
 
 pub(crate) fn link_good(l: Link) -> bool
     ensures { λ r. ⌜ r ≡ linkGood l ⌝ }

@@ -9,7 +9,6 @@ ghost use Rattle.monitor.specs.Words.{words};
 ghost use Rattle.monitor.specs.View.{view, ruledBy, stepped, codeAnswer};
 use super::Stepped;
 use super::Told;
-use super::codes;
 use super::conversations::tpdiscon;
 use super::conversations::tprecv;
 use super::conversations::tpsend;
@@ -40,6 +39,7 @@ use super::words::clock;
 use super::words::set_clock;
 use rules::Answer;
 use rules::Call;
+use rules::codes;
 
 // Each kind decides by its number.
 pub(crate) fn rule(s: &mut [u32; WORDS], p: usize, k: u32, a: u32, b: u32, c: u32) -> Told

@@ -24,7 +24,7 @@ use Rattle.rules.specs.declared.Monitor.{Monitor}
 use Rattle.rules.specs.declared.Stepped.{Stepped}
 use Rattle.rules.proofs.Logic.{byTest, not-both, pick-true, pick-false}
 use Rattle.rules.proofs.Fine.{Shape, Fine}
-use Rattle.rules.proofs.Codes.{codes-apart}
+use Rattle.rules.proofs.AnswerCodes.{codes-apart}
 use Rattle.rules.proofs.Sound.{sound-fine, fine-sound, fresh-fine, clock-fine, moved-fine}
 use Rattle.rules.proofs.Refusals.{rule-past}
 use Rattle.rules.proofs.History.Bridge.{move-grows}

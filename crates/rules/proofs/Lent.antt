@@ -18,7 +18,7 @@ use Rattle.rules.specs.declared.Call.{Call}
 use Rattle.rules.specs.declared.Monitor.{Monitor}
 use Rattle.rules.specs.declared.Stepped.{Stepped}
 use Rattle.rules.proofs.Logic.{byTest, not-both}
-use Rattle.rules.proofs.Codes.{codes-differ}
+use Rattle.rules.proofs.AnswerCodes.{codes-differ}
 use Rattle.rules.proofs.Refusals.{call-refusal-law}
 
 -- the call in place i of a list, from 0

@@ -1,5 +1,5 @@
 pub mod Changes
-pub mod Codes
+pub mod AnswerCodes
 pub mod Fine
 pub mod Logic
 pub mod Tables

@@ -25,7 +25,7 @@ use Rattle.rules.specs.Step.{ruleOf, laterOf, answeredTo, turnedDown, ca
 use Rattle.rules.specs.Run.{callAt, placesOf, ranOf, answersOf, Listed, listOf}
 use Rattle.rules.specs.History.{sameCode}
 use Rattle.rules.proofs.Logic.{and-l, and-r}
-use Rattle.rules.proofs.Codes.{same-code}
+use Rattle.rules.proofs.AnswerCodes.{same-code}
 use Rattle.rules.proofs.Tables.{every, entry}
 
 -- Calls as numbers, six to each; the code of the last one's answer; the record's clock afterwards.

@@ -8,7 +8,7 @@ use native.Mathlib.Nat.{le-of-suc-le-suc, not-suc-le-zero}
 use lib.IntN.{ℤ}
 use lib.ListN.{length, getD}
 use Rattle.rules.specs.History.{sameCode}
-use Rattle.rules.proofs.Codes.{same-code}
+use Rattle.rules.proofs.AnswerCodes.{same-code}
 use Rattle.rules.proofs.Logic.{and-l, and-r}
 
 -- every entry passes the test

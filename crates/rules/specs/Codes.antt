@@ -43,12 +43,19 @@ listRun = pos 0
 abbrev pub fileRun : ℤ
 fileRun = pos 0
 
--- ---- refusals of a list, a record or a call
+-- ---- a request was written in OSI TP's primitives, or read from them
+abbrev pub sequenceDone : ℤ
+sequenceDone = pos 0
+
+-- ---- refusals of a list, a file, a sequence, a record or a call
 abbrev pub tooLittleRoom : ℤ
 tooLittleRoom = pos 16
 
 abbrev pub cutShort : ℤ
 cutShort = pos 17
+
+abbrev pub malformed : ℤ
+malformed = pos 18
 
 abbrev pub unsound : ℤ
 unsound = pos 19
@@ -94,6 +101,10 @@ nothingUnread = pos 32
 
 abbrev pub unreadFull : ℤ
 unreadFull = pos 32
+
+-- ---- refusal of a reader of OSI TP's primitives
+abbrev pub noSuchSequence : ℤ
+noSuchSequence = pos 33
 
 -- ---- accepted by the XATMI kinds
 abbrev pub tpAccepted : ℤ

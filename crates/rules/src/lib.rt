@@ -1,4 +1,6 @@
 // The monitor's record, a call and its answer: the data that the rules in specs/ speak of. The crate monitor holds the record as words.
+pub mod codes;
+
 ghost use mathlib.Core.Path.{_≡_};
 ghost use Rattle.rules.specs.Record.{freshParty, freshLink};
 

@@ -16,7 +16,7 @@ use Rattle.rules.specs.History.{Event, some, ofKind, by, answeredBy, wit
 use Rattle.rules.specs.History.{startedBy, shownOwner, sameCode, makes, isLinkOf, serves, failedEnd, disconnect, finishes}
 use Rattle.rules.proofs.Logic.{test, same-refl, same-ne, and-r, and-false, or-true, or-false, pick-yes, pick-no}
 use Rattle.rules.proofs.Logic.{Nz, and-yes, and-assoc, and-comm, cond-same, cond-of, cond-and, cond-not}
-use Rattle.rules.proofs.Codes.{of-code}
+use Rattle.rules.proofs.AnswerCodes.{of-code}
 use Rattle.rules.proofs.History.Tells.{Tell, nothing, sent, given, made, taken, finished, disconnected, left, tellOf, endingEvent, Valueless, canStart}
 use Rattle.rules.proofs.History.Shows.{Shows, showsOf, Next, servesAfter, isMade, isFinished, failsNow, disconnectsNow}
 use Rattle.rules.proofs.History.Moves

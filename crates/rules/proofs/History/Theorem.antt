@@ -23,7 +23,7 @@ use Rattle.rules.specs.declared.Monitor.{Monitor}
 use Rattle.rules.specs.declared.Stepped.{Stepped}
 use Rattle.rules.proofs.Logic.{byTest, not-both, and-false, cond-same, zero-nz}
 use Rattle.rules.proofs.Fine.{look}
-use Rattle.rules.proofs.Codes.{codes-apart}
+use Rattle.rules.proofs.AnswerCodes.{codes-apart}
 use Rattle.rules.proofs.Sound.{fine-sound, fresh-fine}
 use Rattle.rules.proofs.History.Tells.{nothing, tellOf, endingEvent, Valueless}
 use Rattle.rules.proofs.History.Shows.{showsOf}

@@ -13,7 +13,7 @@ use Rattle.rules.specs.History.{ofKind, sameCode, unheard, answeredBy, w
 use Rattle.rules.specs.declared.Call.{Call}
 use Rattle.rules.specs.declared.Ruled.{Ruled}
 use Rattle.rules.proofs.Logic.{not-both, Nz, or-l, or-r, or-cases, and-yes, and-false, and-l, and-r, not-true, cond-same}
-use Rattle.rules.proofs.Codes.{of-code}
+use Rattle.rules.proofs.AnswerCodes.{of-code}
 use Rattle.rules.proofs.History.Tells.{Tell, nothing, sent, given, made, taken, finished, disconnected, left, endingEvent, tellOf, Valueless}
 use Rattle.rules.proofs.History.Moves.{isEnding}
 use Rattle.rules.proofs.History.Walk.Moved.{eventOf, timeAfter}

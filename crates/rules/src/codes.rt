@@ -1,5 +1,4 @@
-// The numbers of calls and answers, by meaning: a name for each place that answers one, as the rules' specs/Codes has them; 18,
-// the number reader's, has none there.
+// The numbers of calls and answers, by meaning: a name for each place that answers one, as specs/Codes has them.
 
 // ---- TX (document 002)
 pub const TX_OK: i64 = 0;
@@ -25,7 +24,10 @@ pub const LIST_RUN: i64 = 0;
 
 pub const FILE_RUN: i64 = 0;
 
-// ---- refusals of a list, a file, a record or a call
+// ---- a request was written in OSI TP's primitives, or read from them
+pub const SEQUENCE_DONE: i64 = 0;
+
+// ---- refusals of a list, a file, a sequence, a record or a call
 pub const TOO_LITTLE_ROOM: i64 = 16;
 
 pub const CUT_SHORT: i64 = 17;
@@ -60,6 +62,9 @@ pub const NO_REPLY_YET: i64 = 32;
 pub const NOTHING_UNREAD: i64 = 32;
 
 pub const UNREAD_FULL: i64 = 32;
+
+// ---- refusal of a reader of OSI TP's primitives
+pub const NO_SUCH_SEQUENCE: i64 = 33;
 
 // ---- accepted by the XATMI kinds
 pub const TP_ACCEPTED: i64 = 0;
