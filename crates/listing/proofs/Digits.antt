@@ -14,7 +14,7 @@ use lib.Pow.{pow-add}
 use lib.ListN.{length, drop, getD, length-append}
 use lib.Seq.{sets, getD-drop, drop-drop}
 use Rattle.number.proofs.Reading.{below-or-not}
-use Rattle.monitor.proofs.Writes.{sets-after}
+use Rattle.number.proofs.Successive.{sets-after}
 use Rattle.rules.proofs.Logic.{pick-true, pick-false}
 use Rattle.listing.specs.Text.{digitsOf, decimal, signed, field, lineOf, linesOf, refusalLine}
 

@@ -13,8 +13,10 @@ use native.Mathlib.Nat.{add-zero}
 use lib.IntN.{ℤ}
 use lib.ListN.{length, take, drop, set, length-set, length-append, length-drop, take-append-drop}
 use lib.Seq.{take-suc-set, take-all, length-take-le, take-at, drop-at, drop-drop}
-use Rattle.number.specs.Reader.{Reading, number, refused, readNumber}
+use Rattle.number.specs.Reader.{number, refused, readNumber}
+use Rattle.number.specs.Numbers.{Numbers, numbers, stopped, ahead, readNumbers}
 use Rattle.number.proofs.Reading.{below-or-not, number-after, number-within, one-of-three}
+use Rattle.number.proofs.Successive.{ahead-none, ahead-ahead, ahead-read, one-more, no-more}
 use Rattle.rules.specs.Run.{callAt, placesOf, ranOf, answersOf}
 use Rattle.rules.specs.Codes.{tooLittleRoom}
 use Rattle.rules.specs.Sound.{sound}
@@ -22,32 +24,12 @@ use Rattle.rules.specs.Step.{callOf}
 use Rattle.rules.specs.declared.Call.{Call}
 use Rattle.rules.specs.declared.Stepped.{Stepped}
 use Rattle.rules.specs.declared.Monitor.{Monitor}
-use Rattle.monitor.specs.File.{Numbers, numbers, stopped, ahead, onward, readNumbers, CallReading, called, nothing}
+use Rattle.monitor.specs.File.{CallReading, called, nothing}
 use Rattle.monitor.specs.File.{broken, asCall, readCall, Calls, noCalls, withCall, further, callsFrom, codeAt, Passed}
 use Rattle.monitor.specs.File.{passed, afterCalls, fileCalls, pieceRun, pieceOf, fileOf}
 use Rattle.rules.proofs.Logic.{pick-true, pick-false, byTest}
 
 -- ---- numbers one after the other
-
-pub ahead-none : (ns : Numbers) → ahead [] ns ≡ ns
-unfolding ahead
-ahead-none (numbers values next) = refl
-ahead-none (stopped code) = refl
-
-pub ahead-ahead : (xs ys : List ℕ) (ns : Numbers) → ahead xs (ahead ys ns) ≡ ahead (xs ++ ys) ns
-unfolding ahead
-ahead-ahead xs ys (numbers values next) = ap (λ (l : List ℕ). numbers l next) (sym (append-assoc xs ys values))
-ahead-ahead xs ys (stopped code) = refl
-
-module _ (count : ℕ) (input : List ℕ) (place : ℕ) where
-  pub one-more : (value next : ℕ) → readNumber 5 32 input place ≡ number value next
-      → readNumbers (suc count) input place ≡ ahead (value ∷ []) (readNumbers count input next)
-  unfolding readNumbers onward
-  one-more value next e = ap (λ (r : Reading). onward r (readNumbers count input)) e
-
-  pub no-more : (code : ℕ) → readNumber 5 32 input place ≡ refused code → readNumbers (suc count) input place ≡ stopped code
-  unfolding readNumbers onward
-  no-more code e = ap (λ (r : Reading). onward r (readNumbers count input)) e
 
 -- The first `i` of six numbers have been read, and `told` is what reading all tells.
 pub record Reads (told : Numbers) (input values : List ℕ) (at i : ℕ) : Type 0 where
@@ -109,12 +91,6 @@ module _ (input : List ℕ) (place : ℕ) where
   call-some h = pick-true _ _ _ (lt-ltb _ _ h)
 
 -- ---- where numbers and calls end
-
-ahead-read : (values : List ℕ) (ns : Numbers) (all : List ℕ) (next : ℕ) → ahead values ns ≡ numbers all next
-    → (more : List ℕ) × (ns ≡ numbers more next)
-unfolding ahead
-ahead-read values (numbers more end) all next e = let same : end ≡ next = cc in (more, ap (numbers more) same)
-ahead-read values (stopped code) all next e = let z : _≡_ {A = ℕ} 0 1 = cc in absurd (omega arith)
 
 pub numbers-end : (count : ℕ) (input : List ℕ) (place : ℕ) (values : List ℕ) (next : ℕ) → readNumbers count input place ≡ numbers values next
     → (place + count ≤ next) × (place ≤ length input → next ≤ length input)

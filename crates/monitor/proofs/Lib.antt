@@ -22,4 +22,3 @@ pub mod Tokens
 pub mod Turns
 pub mod Usual
 pub mod Whole
-pub mod Writes

@@ -10,11 +10,13 @@ use native.Mathlib.Nat.{zero-add, add-zero, suc-add}
 use native.Mathlib.Omega.{arith}
 use lib.ListN.{length, drop, length-append, length-drop}
 use Rattle.number.specs.Reader.{Reading, number, refused, readNumber}
+use Rattle.number.specs.Numbers.{Numbers, numbers, stopped, ahead, onward, readNumbers}
 use Rattle.number.proofs.Reading.{below-or-not, one-of-three, number-within, number-near, cut-near-end, answer-extends, shifted, number-shifts}
+use Rattle.number.proofs.Successive.{one-more, no-more}
 use Rattle.rules.specs.declared.Call.{Call}
-use Rattle.monitor.specs.File.{Numbers, numbers, stopped, ahead, onward, readNumbers, CallReading, called, nothing, broken, asCall}
+use Rattle.monitor.specs.File.{CallReading, called, nothing, broken, asCall}
 use Rattle.monitor.specs.File.{readCall, Calls, noCalls, withCall, further, callsFrom, fileCalls, codeAt}
-use Rattle.monitor.proofs.Calls.{one-more, no-more, call-some, call-none, call-after, call-within, calls-one, calls-nothing, calls-broken, calls-few}
+use Rattle.monitor.proofs.Calls.{call-some, call-none, call-after, call-within, calls-one, calls-nothing, calls-broken, calls-few}
 
 -- ---- what follows
 

@@ -1,13 +1,13 @@
 -- The drill file: what call stands at a place of its bytes, which whole calls it has, what running it gives, and the bytes of a list of calls.
 -- Assumes nothing.
-use Prim.Native.Nat.{ℕ, zero, suc, _+_, _*_, _/_, _%_}
+use Prim.Native.Nat.{ℕ, zero, suc, _*_, _/_, _%_}
 use mathlib.Core.Bool.{Bool, true}
 use mathlib.Core.List.{List, [], _∷_, _++_}
 use lib.Dec.{eqb, ltb, leb}
 use lib.IntN.{ℤ, pos}
-use lib.ListN.{take, drop, length}
-use Rattle.number.specs.Reader.{Reading, number, refused, readNumber}
-use Rattle.number.specs.Writer.{numberBytes}
+use lib.ListN.{drop, length}
+use Rattle.number.specs.Writer.{Writing, written, unwritten, writeAnswer, writeBuffer}
+use Rattle.number.specs.Numbers.{Numbers, numbers, stopped, readNumbers, numbersBytes}
 use Rattle.rules.specs.Choice.{pick}
 use Rattle.rules.specs.Codes.{fileRun, tooLittleRoom, cutShort, unsound}
 use Rattle.rules.specs.Sound.{sound}
@@ -20,30 +20,6 @@ use Rattle.monitor.specs.declared.file.Written.{Written}
 use Rattle.monitor.specs.declared.file.Written.the-variants.{Next, NoRoom, Unfinished}
 
 -- ---- reading
-
--- a number as the file has it: at most 5 bytes, below 2^32
-abbrev pub fileNumber : List ℕ → ℕ → Reading
-fileNumber input place = readNumber 5 32 input place
-
--- Numbers one after the other: their values with the place after them, or the first one's refusal.
-pub data Numbers : Type 0 where
-  numbers : List ℕ → ℕ → Numbers
-  stopped : ℕ → Numbers
-
--- these values in front of those
-unfoldable pub ahead : List ℕ → Numbers → Numbers
-ahead values (numbers more next) = numbers (values ++ more) next
-ahead values (stopped code) = stopped code
-
--- a number, and those after it
-unfoldable pub onward : Reading → (ℕ → Numbers) → Numbers
-onward (number value next) after = ahead (value ∷ []) (after next)
-onward (refused code) after = stopped code
-
--- so many numbers from a place on
-unfoldable pub readNumbers : ℕ → List ℕ → ℕ → Numbers
-readNumbers zero input place = numbers [] place
-readNumbers (suc count) input place = onward (fileNumber input place) (readNumbers count input)
 
 -- What stands at a place of a file: a call with the place after it, nothing, or a refusal, 17 or 18.
 pub data CallReading : Type 0 where
@@ -139,36 +115,19 @@ fileOf m input out = pick (leb (fileCalls input .count) (length out / 6)) (piece
 
 -- ---- writing
 
--- the bytes of numbers
-unfoldable pub fileBytes : List ℕ → List ℕ
-fileBytes [] = []
-fileBytes (value ∷ values) = numberBytes 5 value ++ fileBytes values
-
--- What writing tells: the place after the file, or a refusal.
-pub data Writing : Type 0 where
-  wrote : ℕ → Writing
-  unwritten : ℕ → Writing
-
 -- the code's answer, in document 01's numbers
-unfoldable pub written : Written → Writing
-written (Next place) = wrote place
-written NoRoom = unwritten 16
-written Unfinished = unwritten 17
+unfoldable pub fileWritten : Written → Writing
+fileWritten (Next place) = written place
+fileWritten NoRoom = unwritten 16
+fileWritten Unfinished = unwritten 17
 
--- is the list's length a multiple of six, and is there room for its bytes from the place on?
+-- is the list's length a multiple of six?
 unfoldable pub wholeCalls : List ℕ → Bool
 wholeCalls calls = eqb (length calls % 6) 0
 
-unfoldable pub hasRoom : List ℕ → ℕ → List ℕ → Bool
-hasRoom buffer place calls = leb (place + length (fileBytes calls)) (length buffer)
-
-unfoldable pub writeAnswer : List ℕ → ℕ → List ℕ → Writing
-writeAnswer buffer place calls =
-    pick (wholeCalls calls) (pick (hasRoom buffer place calls) (wrote (place + length (fileBytes calls))) (unwritten 16)) (unwritten 17)
+unfoldable pub fileAnswer : List ℕ → ℕ → List ℕ → Writing
+fileAnswer buffer place calls = pick (wholeCalls calls) (writeAnswer buffer place (numbersBytes calls)) (unwritten 17)
 
 -- the whole buffer afterwards
-unfoldable pub writeBuffer : List ℕ → ℕ → List ℕ → List ℕ
-writeBuffer buffer place calls =
-    pick (wholeCalls calls)
-    (pick (hasRoom buffer place calls) (take place buffer ++ fileBytes calls ++ drop (place + length (fileBytes calls)) buffer) buffer)
-    buffer
+unfoldable pub fileBuffer : List ℕ → ℕ → List ℕ → List ℕ
+fileBuffer buffer place calls = pick (wholeCalls calls) (writeBuffer buffer place (numbersBytes calls)) buffer

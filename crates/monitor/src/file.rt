@@ -1,15 +1,11 @@
 // The drill file: calls as numbers in groups of seven bits, six to a call; reading one, running a file, writing one.
 ghost use mathlib.Core.Path.{_≡_};
 ghost use mathlib.Core.Bool.{true};
-ghost use Prim.Native.Nat.{_+_, _≤_};
-ghost use lib.Dec.{leb};
 ghost use lib.ListN.{length};
-ghost use lib.Seq.{sets};
 ghost use Rattle.rules.specs.Sound.{sound};
 ghost use Rattle.monitor.specs.Words.{words};
 ghost use Rattle.monitor.specs.View.{view};
-ghost use Rattle.monitor.specs.File.{readCall, found, passed, pieceRun, pieceOf, fileOf, fileCalls, fileBytes, written, writeAnswer, writeBuffer};
-use rules::codes;
+ghost use Rattle.monitor.specs.File.{readCall, found, passed, pieceRun, pieceOf, fileOf, fileCalls, fileWritten, fileAnswer, fileBuffer};
 use super::run::put;
 use super::sound::is_sound_in;
 use super::steps::call_on;
@@ -18,6 +14,7 @@ use super::words::WORDS;
 use number::Decoded;
 use number::Encoded;
 use rules::Call;
+use rules::codes;
 
 // What stands at a place of a drill file.
 pub enum Found {
@@ -244,62 +241,17 @@ pub enum Written {
     Unfinished,
 }
 
-// Is there room for the numbers from a place on?
-fn fits(numbers: &[u32], room: usize) -> bool
-    ensures { λ r. ⌜ r ≡ leb (length (fileBytes (now (numbers .entry)))) room ⌝ }
-{
-    let mut left = room;
-    let mut i = 0;
-    while i < numbers.len() {
-        let needed = number::size(numbers[i]);
-        if left < needed {
-            return false;
-        }
-        left = left - needed;
-        i += 1;
-    }
-    true
-}
-
-// The numbers from a place on; the answer is the place after them.
-fn write_numbers(buffer: &mut [u8], place: usize, numbers: &[u32]) -> usize
-    requires { ⌜ place + length (fileBytes (now numbers)) ≤ length (now buffer) ⌝ }
-    ensures next { λ r. ⌜ r ≡ place + length (fileBytes (now (numbers .entry))) ⌝ }
-    ensures bytes { λ _. ⌜ now (buffer .exit) ≡ sets (now (buffer .entry)) place (fileBytes (now (numbers .entry))) ⌝ }
-{
-    let mut at = place;
-    let mut i = 0;
-    while i < numbers.len() {
-        let wrote = number::encode(&mut *buffer, at, numbers[i]);
-        match wrote {
-            Encoded::Next(next) => {
-                at = next;
-                i += 1;
-            }
-            Encoded::NoRoom => {
-                return at;
-            }
-        }
-    }
-    at
-}
-
 // A list of calls, six numbers to a call, put into the buffer at a place. Where it is refused the buffer stays as it was.
 pub fn write_calls(buffer: &mut [u8], place: usize, calls: &[u32]) -> Written
-    ensures answer { λ r. ⌜ written r ≡ writeAnswer (now (buffer .entry)) place (now (calls .entry)) ⌝ }
-    ensures bytes { λ _. ⌜ now (buffer .exit) ≡ writeBuffer (now (buffer .entry)) place (now (calls .entry)) ⌝ }
+    ensures answer { λ r. ⌜ fileWritten r ≡ fileAnswer (now (buffer .entry)) place (now (calls .entry)) ⌝ }
+    ensures bytes { λ _. ⌜ now (buffer .exit) ≡ fileBuffer (now (buffer .entry)) place (now (calls .entry)) ⌝ }
 {
     if calls.len() % 6 != 0 {
         return Written::Unfinished;
     }
-    if buffer.len() < place {
-        return Written::NoRoom;
+    let wrote = number::encode_all(buffer, place, calls);
+    match wrote {
+        Encoded::Next(next) => Written::Next(next),
+        Encoded::NoRoom => Written::NoRoom,
     }
-    let room = buffer.len() - place;
-    let enough = fits(calls, room);
-    if !enough {
-        return Written::NoRoom;
-    }
-    let next = write_numbers(buffer, place, calls);
-    Written::Next(next)
 }

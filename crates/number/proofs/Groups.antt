@@ -121,3 +121,9 @@ pub bytes-some : (most value : ℕ) → 0 < most → 0 < length (numberBytes mos
 unfolding numberBytes
 bytes-some zero value h = absurd (omega arith)
 bytes-some (suc most) value h = by-test (λ (l : List ℕ). 0 < length l) (ltb value 128) (omega arith) (omega arith)
+
+pub bytes-few : (most value : ℕ) → length (numberBytes most value) ≤ most
+unfolding numberBytes
+bytes-few zero value = omega arith
+bytes-few (suc most) value =
+    let few = bytes-few most (value / 128) in by-test (λ (l : List ℕ). length l ≤ suc most) (ltb value 128) (omega arith) (omega arith)

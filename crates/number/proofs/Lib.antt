@@ -4,4 +4,5 @@ pub mod Turns
 pub mod Stores
 pub mod Reading
 pub mod RoundTrip
+pub mod Successive
 pub mod Marked

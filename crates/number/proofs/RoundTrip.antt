@@ -13,7 +13,7 @@ use Rattle.number.specs.Reader.{Reading, number, refused, continued, rea
 use Rattle.number.specs.Writer.{written, numberBytes, writeAnswer, writeBuffer}
 use Rattle.number.proofs.Choice.{by-test}
 use Rattle.number.proofs.Groups.{continued-zero, continued-high, front-last, front-more, front-ends, count-last, count-more, bytes-last, bytes-more}
-use Rattle.number.proofs.Stores.{fit-answer, fit-list, unfit-answer}
+use Rattle.number.proofs.Stores.{fit-answer, fit-list, answer-fits, written-next}
 use Rattle.number.proofs.Reading.{below-or-not, number-end, number-within}
 
 -- ---- what is written is read
@@ -63,31 +63,21 @@ bytes-are-read (suc most) bits place value after some small short =
     (more-than-one most value h short) (quotient-below bits value small h) (fewer-groups most value h short)))
     (below-or-not value 128)
 
-module _ (most : ℕ) (buffer : List ℕ) (place value next : ℕ) (e : writeAnswer most buffer place value ≡ written next) where
-  answer-fits : place + length (numberBytes most value) ≤ length buffer
-  answer-fits =
-      ⊎-elim
-      (λ h. let u = unfit-answer most buffer place value h in let z : _≡_ {A = ℕ} 0 1 = cc in absurd (omega arith))
-      (λ h. h)
-      (below-or-not (length buffer) (place + length (numberBytes most value)))
-
-  pub written-next : next ≡ place + length (numberBytes most value)
-  written-next = let f = fit-answer most buffer place value answer-fits in cc
-
-  -- What the writer writes the reader reads, with the place after it.
-  pub written-is-read : (bits : ℕ) → 0 < most → bits ≤ 7 * most → value < 2 ^ bits
-      → readNumber most bits (writeBuffer most buffer place value) place ≡ number value next
-  unfolding readNumber
-  written-is-read bits some room small =
-      let bytes : List ℕ = numberBytes most value in
-      let after : List ℕ = drop (place + length bytes) buffer in
-      let k : 2 ^ bits ≤ 2 ^ (7 * most) = pow-mono room in
-      let fit = answer-fits in
-      ap (λ (l : List ℕ). readGroups most bits place (drop place l))
-      (sym (fit-list most buffer place value answer-fits) ∙ append-assoc (take place buffer) bytes after)
-      ∙ ap (readGroups most bits place) (drop-at (take place buffer) (bytes ++ after) place (length-take-le place buffer (omega arith)))
-      ∙ bytes-are-read most bits place value after some small (omega arith)
-      ∙ ap (number value) (sym written-next)
+-- What the writer writes the reader reads, with the place after it.
+pub written-is-read : (most bits : ℕ) (buffer : List ℕ) (place value next : ℕ) → writeAnswer buffer place (numberBytes most value) ≡ written next
+    → 0 < most → bits ≤ 7 * most → value < 2 ^ bits
+    → readNumber most bits (writeBuffer buffer place (numberBytes most value)) place ≡ number value next
+unfolding readNumber
+written-is-read most bits buffer place value next e some room small =
+    let bytes : List ℕ = numberBytes most value in
+    let after : List ℕ = drop (place + length bytes) buffer in
+    let k : 2 ^ bits ≤ 2 ^ (7 * most) = pow-mono room in
+    let fit = answer-fits buffer place bytes next e in
+    ap (λ (l : List ℕ). readGroups most bits place (drop place l))
+    (sym (fit-list buffer place bytes fit) ∙ append-assoc (take place buffer) bytes after)
+    ∙ ap (readGroups most bits place) (drop-at (take place buffer) (bytes ++ after) place (length-take-le place buffer (omega arith)))
+    ∙ bytes-are-read most bits place value after some small (omega arith)
+    ∙ ap (number value) (sym (written-next buffer place bytes next e))
 
 -- ---- what is read is written
 
@@ -162,10 +152,10 @@ module _ (most bits : ℕ) (input : List ℕ) (place value next : ℕ) (bytes : 
   fit = let w = number-within most bits input place value next e in let f = ends in let l = long in omega arith
 
   -- What the reader accepts is what the writer writes of that value: it gives the same next place, and writing it changes nothing.
-  pub read-is-written : (writeAnswer most input place value ≡ written next) × (writeBuffer most input place value ≡ input)
+  pub read-is-written : (writeAnswer input place (numberBytes most value) ≡ written next) × (writeBuffer input place (numberBytes most value) ≡ input)
   read-is-written = (
-    sym (fit-answer most input place value fit) ∙ ap written (let f = ends in let l = long in omega arith),
-    sym (fit-list most input place value fit)
+    sym (fit-answer input place (numberBytes most value) fit) ∙ ap written (let f = ends in let l = long in omega arith),
+    sym (fit-list input place (numberBytes most value) fit)
         ∙ ap₂ (λ (l : List ℕ) (k : ℕ). take place input ++ l ++ drop (place + k) input) (sym counted) long
         ∙ ap (λ (l : List ℕ). l ++ drop (place + count) input) (sym (take-add place count input))
         ∙ take-append-drop (place + count) input,

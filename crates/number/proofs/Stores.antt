@@ -1,17 +1,19 @@
--- What holds before each turn of the writer's loop over the groups, for any most bytes.
+-- What holds before each turn of the writer's loop over the groups, for any most bytes; what writing any bytes answers and leaves.
 -- Assumes nothing.
-use Prim.Native.Nat.{ℕ, zero, suc, _+_, _*_, _^_, _≤_, _<_, _/_, _%_}
+use Prim.Native.Nat.{ℕ, zero, suc, _+_, _-_, _*_, _^_, _≤_, _<_, _/_, _%_}
 use mathlib.Core.Path.{_≡_, ap, sym, _∙_, subst}
-use mathlib.Core.List.{List, [], _∷_, _++_}
+use mathlib.Core.Logic.{⊎-elim}
+use mathlib.Core.List.{List, [], _∷_, _++_, append-assoc}
 use native.Mathlib.Numerals.{add-one}
 use native.Mathlib.Omega.{arith}
 use lib.Pow.{shr-lt}
 use lib.ListN.{length, take, drop, set, length-set}
 use borrow.Author.Tests.{le-leb, lt-leb}
-use lib.Seq.{sets, sets-eq}
+use lib.Seq.{sets, sets-eq, drop-at, take-at, length-take-le}
 use Rattle.number.specs.Writer.{written, unwritten, numberBytes, fits, writeAnswer, writeBuffer}
 use Rattle.number.proofs.Choice.{pick-true, pick-false}
 use Rattle.number.proofs.Groups.{bytes-last, bytes-more, bytes-some}
+use Rattle.number.proofs.Reading.{below-or-not}
 
 -- The bytes of `rest`, stored from `at` on, make the list `after` and end at `next`; at most `left` of them come, and the buffer has `long` bytes.
 pub record Store (next long : ℕ) (after buffer : List ℕ) (rest at left : ℕ) : Type 0 where
@@ -66,24 +68,46 @@ module _ {next long : ℕ} {after buffer : List ℕ} {rest at left : ℕ} (s : S
 
 -- ---- what the writer answers and leaves, where there is room and where there is not
 
-module _ (most : ℕ) (buffer : List ℕ) (place value : ℕ) where
-  module _ (h : place + length (numberBytes most value) ≤ length buffer) where
-    pub fit-answer : written (place + length (numberBytes most value)) ≡ writeAnswer most buffer place value
+module _ (buffer : List ℕ) (place : ℕ) (bytes : List ℕ) where
+  module _ (h : place + length bytes ≤ length buffer) where
+    pub fit-answer : written (place + length bytes) ≡ writeAnswer buffer place bytes
     unfolding writeAnswer fits
     fit-answer = sym (pick-true _ _ _ (le-leb _ _ h))
 
-    pub fit-list : take place buffer ++ numberBytes most value ++ drop (place + length (numberBytes most value)) buffer ≡ writeBuffer most buffer place value
+    pub fit-list : take place buffer ++ bytes ++ drop (place + length bytes) buffer ≡ writeBuffer buffer place bytes
     unfolding writeBuffer fits
     fit-list = sym (pick-true _ _ _ (le-leb _ _ h))
 
-    pub fit-buffer : sets buffer place (numberBytes most value) ≡ writeBuffer most buffer place value
-    fit-buffer = sets-eq (numberBytes most value) buffer place h ∙ fit-list
+    pub fit-buffer : sets buffer place bytes ≡ writeBuffer buffer place bytes
+    fit-buffer = sets-eq bytes buffer place h ∙ fit-list
 
-  module _ (h : length buffer < place + length (numberBytes most value)) where
-    pub unfit-answer : unwritten 16 ≡ writeAnswer most buffer place value
+  module _ (h : length buffer < place + length bytes) where
+    pub unfit-answer : unwritten 16 ≡ writeAnswer buffer place bytes
     unfolding writeAnswer fits
     unfit-answer = sym (pick-false _ _ _ (lt-leb _ _ h))
 
-    pub unfit-buffer : buffer ≡ writeBuffer most buffer place value
+    pub unfit-buffer : buffer ≡ writeBuffer buffer place bytes
     unfolding writeBuffer fits
     unfit-buffer = sym (pick-false _ _ _ (lt-leb _ _ h))
+
+  module _ (next : ℕ) (e : writeAnswer buffer place bytes ≡ written next) where
+    pub answer-fits : place + length bytes ≤ length buffer
+    answer-fits =
+        ⊎-elim
+        (λ h. let u = unfit-answer h in let z : _≡_ {A = ℕ} 0 1 = cc in absurd (omega arith))
+        (λ h. h)
+        (below-or-not (length buffer) (place + length bytes))
+
+    pub written-next : next ≡ place + length bytes
+    written-next = let f = fit-answer answer-fits in cc
+
+    -- the bytes stand in the buffer between the two places
+    pub written-part : take (next - place) (drop place (writeBuffer buffer place bytes)) ≡ bytes
+    written-part =
+        let after : List ℕ = drop (place + length bytes) buffer in
+        let n = written-next in
+        let long : next - place ≡ length bytes = omega arith in
+        let room = answer-fits in
+        ap (λ (l : List ℕ). take (next - place) (drop place l)) (sym (fit-list answer-fits) ∙ append-assoc (take place buffer) bytes after)
+        ∙ ap (take (next - place)) (drop-at (take place buffer) (bytes ++ after) place (length-take-le place buffer (omega arith)))
+        ∙ take-at bytes after (next - place) (sym long)

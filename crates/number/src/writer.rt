@@ -16,8 +16,8 @@ pub enum Encoded {
 
 // Puts a number into the buffer at a place. Where there is no room for all of it, the buffer stays as it was.
 pub fn encode(buffer: &mut [u8], place: usize, value: u32) -> Encoded
-    ensures answer { λ r. ⌜ encoded r ≡ writeAnswer 5 (now (buffer .entry)) place value ⌝ }
-    ensures bytes { λ _. ⌜ now (buffer .exit) ≡ writeBuffer 5 (now (buffer .entry)) place value ⌝ }
+    ensures answer { λ r. ⌜ encoded r ≡ writeAnswer (now (buffer .entry)) place (numberBytes 5 value) ⌝ }
+    ensures bytes { λ _. ⌜ now (buffer .exit) ≡ writeBuffer (now (buffer .entry)) place (numberBytes 5 value) ⌝ }
 {
     if buffer.len() <= place {
         return Encoded::NoRoom;

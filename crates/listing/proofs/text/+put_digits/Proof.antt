@@ -10,7 +10,7 @@ use borrow.Fn.Kinds.{In}
 use borrow.Fn.PlainCycle.{Measures, is, falls, and}
 use lib.Seq.{sets}
 use Rattle.listing.specs.Text.{decimal}
-use Rattle.monitor.proofs.Writes.{sets-after}
+use Rattle.number.proofs.Successive.{sets-after}
 use Rattle.listing.proofs.Digits.{decimal-last, decimal-more}
 use Rattle.listing.proofs.text.put_digits.Reads as put-digits
 use Rattle.listing.proofs.text.put_digits.Kinds as put-digits-kinds

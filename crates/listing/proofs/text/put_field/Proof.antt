@@ -11,7 +11,7 @@ use lib.ListN.{length, set, length-set, length-append}
 use lib.Seq.{sets}
 use Rattle.listing.specs.Text.{decimal}
 use Rattle.listing.proofs.Signs.{raw, raw-sign}
-use Rattle.monitor.proofs.Writes.{sets-after}
+use Rattle.number.proofs.Successive.{sets-after}
 use Rattle.listing.proofs.Digits.{decimal-short, field-negative, field-plain}
 use Rattle.listing.proofs.text.put_field.Statement.{statement}
 use Rattle.listing.proofs.text.put_field.Tie as tie

@@ -5,7 +5,8 @@ use mathlib.Core.Path.{refl, ap, sym, _∙_}
 use borrow.Author.Needs.{needs}
 use Rattle.rules.specs.Run.{callAt}
 use Rattle.number.specs.Answers.{decoded}
-use Rattle.monitor.specs.File.{found, readNumbers, asCall}
+use Rattle.number.specs.Numbers.{readNumbers}
+use Rattle.monitor.specs.File.{found, asCall}
 use Rattle.monitor.proofs.Calls.{Reads, reads-none, reads-one, reads-stop, reads-all, call-none, call-some}
 use Rattle.monitor.proofs.file.read_call.Statement.{statement}
 use Rattle.monitor.proofs.file.read_call.Tie as tie

@@ -19,7 +19,7 @@ returns : tie.Need-returns
 unfolding encoded
 returns c =
     let some = bytes-some 5 (c .before .before .args .value) (omega arith) in
-    (unfit-answer 5 _ _ _ (omega arith), unfit-buffer 5 _ _ _ (omega arith))
+    (unfit-answer _ _ _ (omega arith), unfit-buffer _ _ _ (omega arith))
 
 cast-buffer : tie.Need-cast-buffer
 cast-buffer c = search needs
@@ -39,8 +39,8 @@ returns-2 c =
     let a = c .before .before .before .args in
     let e : numberBytes 5 (a .value) ≡ a .value ∷ [] = bytes-last 4 (a .value) (c .if2 .taken) in
     let one : length (numberBytes 5 (a .value)) ≡ 1 = ap length e in (
-      ap (λ (n : ℕ). written (a .place + n)) (sym one) ∙ fit-answer 5 _ _ _ (omega arith),
-      ap (sets (a .buffer .now) (a .place)) (sym e) ∙ fit-buffer 5 _ _ _ (omega arith),
+      ap (λ (n : ℕ). written (a .place + n)) (sym one) ∙ fit-answer _ _ _ (omega arith),
+      ap (sets (a .buffer .now) (a .place)) (sym e) ∙ fit-buffer _ _ _ (omega arith),
     )
 
 sub-room : tie.Need-sub-room
@@ -53,7 +53,7 @@ returns-3 : tie.Need-returns-3
 unfolding encoded
 returns-3 c =
     let e = c .before .size .ensures in
-    (unfit-answer 5 _ _ _ (omega arith), unfit-buffer 5 _ _ _ (omega arith))
+    (unfit-answer _ _ _ (omega arith), unfit-buffer _ _ _ (omega arith))
 
 add-buffer : tie.Need-add-buffer
 add-buffer c = search needs
@@ -99,8 +99,8 @@ returns-4 c =
     let e = one-more _ h in
     let s = sized .size .ensures in
     let r = put .encode-rest .ensures in (
-      ap written (r .0 ∙ omega arith) ∙ fit-answer 5 _ _ _ (omega arith),
-      r .1 ∙ stored _ h _ _ ∙ fit-buffer 5 _ _ _ (omega arith),
+      ap written (r .0 ∙ omega arith) ∙ fit-answer _ _ _ (omega arith),
+      r .1 ∙ stored _ h _ _ ∙ fit-buffer _ _ _ (omega arith),
     )
 
 pub encode-spec : {M : Type 1} → statement M

@@ -1,19 +1,19 @@
--- `monitor::file::write_numbers` meets its contract.
+-- `number::numbers::put_all` meets its contract.
 -- Assumes nothing.
 use Prim.Native.Nat.{_-_}
 use mathlib.Core.Path.{ap, sym, _∙_}
 use borrow.Author.Needs.{needs}
 use lib.ListN.{length}
 use Rattle.number.specs.Answers.{encoded}
-use Rattle.monitor.proofs.Writes.{Writes, writes-none, writes-one, writes-room, writes-all}
-use Rattle.monitor.proofs.file.write_numbers.Statement.{statement}
-use Rattle.monitor.proofs.file.write_numbers.Tie as tie
+use Rattle.number.proofs.Successive.{Writes, writes-none, writes-one, writes-room, writes-all}
+use Rattle.number.proofs.numbers.put_all.Statement.{statement}
+use Rattle.number.proofs.numbers.put_all.Tie as tie
 
 abbrev Inv-loop : tie.InvT-loop
-Inv-loop buffer₀ place numbers at₀ i₀ buffer at i = Writes buffer₀ place numbers buffer at i
+Inv-loop buffer₀ place values at₀ i₀ buffer at i = Writes buffer₀ place values buffer at i
 
 abbrev μ-loop : tie.MeasureT-loop
-μ-loop buffer₀ place numbers at₀ i₀ buffer at i = length numbers - i
+μ-loop buffer₀ place values at₀ i₀ buffer at i = length values - i
 
 loop-holds : tie.Need-loop-holds Inv-loop μ-loop
 loop-holds c = writes-none _ _ _ (c .before .before .pre)
@@ -73,8 +73,8 @@ same-length-2 c = c .before .loop .inv .long
 returns-2 : tie.Need-returns-2 Inv-loop μ-loop
 returns-2 c = writes-all (c .before .loop .inv) (c .loop-test .left)
 
-pub write-numbers-spec : {M : Type 1} → statement M
-write-numbers-spec =
+pub put-all-spec : {M : Type 1} → statement M
+put-all-spec =
     tie.close
     (tie.spec
     Inv-loop

@@ -1,17 +1,17 @@
--- `monitor::file::fits` meets its contract.
+-- `number::numbers::fits` meets its contract.
 -- Assumes nothing.
 use Prim.Native.Nat.{_-_}
 use borrow.Author.Needs.{needs}
 use lib.ListN.{length}
-use Rattle.monitor.proofs.Writes.{Measures, measures-none, measures-one, measures-over, measures-all}
-use Rattle.monitor.proofs.file.fits.Statement.{statement}
-use Rattle.monitor.proofs.file.fits.Tie as tie
+use Rattle.number.proofs.Successive.{Measures, measures-none, measures-one, measures-over, measures-all}
+use Rattle.number.proofs.numbers.fits.Statement.{statement}
+use Rattle.number.proofs.numbers.fits.Tie as tie
 
 abbrev Inv-loop : tie.InvT-loop
-Inv-loop numbers room left₀ i₀ left i = Measures numbers room left i
+Inv-loop values room left₀ i₀ left i = Measures values room left i
 
 abbrev μ-loop : tie.MeasureT-loop
-μ-loop numbers room left₀ i₀ left i = length numbers - i
+μ-loop values room left₀ i₀ left i = length values - i
 
 loop-holds : tie.Need-loop-holds Inv-loop μ-loop
 loop-holds c = measures-none _ _
