@@ -3,7 +3,10 @@
 use mathlib.Core.Path.{_≡_, refl, sym, ap, _∙_}
 use mathlib.Core.Bool.{Bool, true, false, not, _&&_, _||_}
 use Prim.Native.Nat.{ℕ}
-use lib.IntN.{ℤ}
+use native.Mathlib.Omega.{arith}
+use borrow.Author.Tests.{leb-true, le-leb}
+use lib.Dec.{leb}
+use lib.IntN.{ℤ, pos}
 use Rattle.rules.specs.Choice.{pick}
 use Rattle.rules.specs.Codes.{txOk, txProtocolError, txError, txEinval, noBegin, unsound, unknownKind, unknownParty}
 use Rattle.rules.specs.Codes.{badArgument, notAllowedNow, noSuchEnd, notOffered, noRoomLeft, inTransaction}
@@ -274,3 +277,11 @@ call-refusal-law m c = call-lawful m c .refused
 -- there is no other code than a refusal's and those of calls that were carried out
 pub code-known : (m : Monitor) (c : Call) → isRefusal (stepOf m c .answer .code) || isOutcome (stepOf m c .answer .code) ≡ true
 code-known m c = step-lawful m c .known
+
+-- document 02's numbers for refusals, of which calls answer none yet
+pub later-refusals : (n : ℕ) → leb 33 n ≡ true → leb n 39 ≡ true → isRefusal (pos n) ≡ true
+unfolding isRefusal
+later-refusals n h k =
+    ap (λ (b : Bool). (leb 16 n && leb n 28) || (b && leb n 39)) (le-leb 32 n (let l = leb-true 33 n h in omega arith))
+    ∙ ap (λ (b : Bool). (leb 16 n && leb n 28) || b) k
+    ∙ or-true (leb 16 n && leb n 28)

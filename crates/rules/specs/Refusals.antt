@@ -11,9 +11,9 @@ use Rattle.rules.specs.declared.Call.{Call}
 use Rattle.rules.specs.declared.Monitor.{Monitor}
 use Rattle.rules.specs.declared.Stepped.{Stepped}
 
--- "Refusals are 16 to 28, 32, −5, −6 and −8."
+-- "Refusals are 16 to 28, 32, −5, −6 and −8." "33 to 39 .. join document 01's refusals" (document 02).
 unfoldable pub isRefusal : ℤ → Bool
-isRefusal (pos n) = (leb 16 n && leb n 28) || eqb n 32
+isRefusal (pos n) = (leb 16 n && leb n 28) || (leb 32 n && leb n 39)
 isRefusal (negsuc n) = eqb n 4 || (eqb n 5 || eqb n 7)
 
 -- the questions before the clock moves: 19, 20 and 21
