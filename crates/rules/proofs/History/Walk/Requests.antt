@@ -136,7 +136,8 @@ dispatch-moved m c fine pb k =
 
 -- ---- 12, 13
 -- the caller's transaction as its link is made
-added-tx : (m : Monitor) → Fine m → (room : m .count < 32) → m .lastlink < 60000 → (l : Link) → l .number ≡ suc (m .lastlink) → (p : ℕ) → txOf (added m l) p ≡ txOf m p
+pub added-tx : (m : Monitor) → Fine m → (room : m .count < 32) → m .lastlink < 60000 → (l : Link) → l .number ≡ suc (m .lastlink) → (p : ℕ)
+    → txOf (added m l) p ≡ txOf m p
 unfolding txP
 added-tx m fine room left l e p =
     txOf-txP (added m l) (added-frame m (fine .frame) room l e left) p

@@ -1,0 +1,4 @@
+pub mod Agreement
+pub mod Padding
+pub mod RoundTrip
+pub mod Requests
