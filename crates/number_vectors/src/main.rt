@@ -22,17 +22,8 @@ const VALUES: [u32; 14] = [
     4294967295,
 ];
 
-fn show_byte(byte: u8) {
-    io::write_all(STDOUT_FILENO, b" ");
-    io::print_hex(STDOUT_FILENO, byte as u64, 2);
-}
-
 fn show_bytes(bytes: &[u8]) {
-    let mut i = 0;
-    while i < bytes.len() {
-        show_byte(bytes[i]);
-        i += 1;
-    }
+    hex_io::write_bytes(STDOUT_FILENO, bytes);
 }
 
 fn show_read(input: &[u8], place: usize) {

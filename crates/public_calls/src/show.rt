@@ -51,15 +51,6 @@ pub fn places(answers: &[i64]) {
     }
 }
 
-fn byte(byte: u8) {
-    text(b" ");
-    io::print_hex(STDOUT_FILENO, byte as u64, 2);
-}
-
 pub fn bytes(bytes: &[u8]) {
-    let mut i = 0;
-    while i < bytes.len() {
-        byte(bytes[i]);
-        i += 1;
-    }
+    hex_io::write_bytes(STDOUT_FILENO, bytes);
 }
