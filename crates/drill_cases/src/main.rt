@@ -31,7 +31,7 @@ fn list_case(case: usize) -> bool {
     }
     io::write_all(STDOUT_FILENO, &name);
     io::write_all(STDOUT_FILENO, b"\n");
-    drill_io::list_all(fd);
+    drill_io::list_all(fd, b"drill_cases");
     libc::close(fd);
     true
 }

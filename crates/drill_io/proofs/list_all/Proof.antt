@@ -9,10 +9,10 @@ use Rattle.drill_io.proofs.list_all.Statement.{statement}
 use Rattle.drill_io.proofs.list_all.Tie as tie
 
 abbrev Inv-loop : tie.InvT-loop
-Inv-loop fd input₀ answers₀ output₀ s₀ turns₀ input answers output s turns = (s .count < length input) × (30 < length input) × (6 ≤ length answers)
+Inv-loop fd program input₀ answers₀ output₀ s₀ turns₀ input answers output s turns = (s .count < length input) × (30 < length input) × (6 ≤ length answers)
 
 abbrev μ-loop : tie.MeasureT-loop
-μ-loop fd input₀ answers₀ output₀ s₀ turns₀ input answers output s turns = turns
+μ-loop fd program input₀ answers₀ output₀ s₀ turns₀ input answers output s turns = turns
 
 -- the loop's place that a turn is of
 abbrev looped : tie.After-turn-arg3 Inv-loop μ-loop → tie.At-loop Inv-loop μ-loop
@@ -62,7 +62,8 @@ loop-again c =
     let t = turned .turn in
     let i = looped (turned .before) .loop .inv in
     let on = t .ensures (not-false _ (c .if1 .left)) in
-    (omega (arith, on, t .kept .1 .1 .0), omega (arith, i .1, t .kept .1 .1 .0), omega (arith, i .2, t .kept .1 .1 .1 .0))
+    let kept = t .kept .1 .1 .1 in
+    (omega (arith, on, kept .0), omega (arith, i .1, kept .0), omega (arith, i .2, kept .1 .0))
 
 returns-2 : tie.Need-returns-2 Inv-loop μ-loop
 returns-2 c = search needs
