@@ -92,20 +92,34 @@ fn push_decimal(value: i64, line: &mut Vec<u8>) {
     line.extend_from_slice(&digits[at..]);
 }
 
-/// Appends the six fields of an answer as a line.
-pub fn push_answer(answer: &[i64; 6], lines: &mut Vec<u8>) {
+/// Appends the six fields of an answer.
+fn push_fields(answer: &[i64; 6], line: &mut Vec<u8>) {
     for (i, &field) in answer.iter().enumerate() {
         if i > 0 {
-            lines.push(b' ');
+            line.push(b' ');
         }
-        push_decimal(field, lines);
+        push_decimal(field, line);
     }
+}
+
+/// Appends the six fields of an answer as a line.
+pub fn push_answer(answer: &[i64; 6], lines: &mut Vec<u8>) {
+    push_fields(answer, lines);
     lines.push(b'\n');
 }
 
 /// Runs a drill file on a fresh monitor: one line a call; a bad number gives
 /// its refusal alone and stops. The input may have any length.
-pub fn run(mut input: impl Read, mut output: impl Write) -> io::Result<()> {
+pub fn run(input: impl Read, output: impl Write) -> io::Result<()> {
+    run_with(input, output, |_, _, _| ())
+}
+
+/// As `run`, but `go_on` may append to the line of a call and its answer.
+pub fn run_with(
+    mut input: impl Read,
+    mut output: impl Write,
+    go_on: impl Fn(&[u32; 6], &[i64; 6], &mut Vec<u8>),
+) -> io::Result<()> {
     const CHUNK: usize = 1 << 16;
     let mut monitor = Monitor::fresh();
     let mut buffer = vec![0u8; CHUNK];
@@ -117,7 +131,10 @@ pub fn run(mut input: impl Read, mut output: impl Write) -> io::Result<()> {
         while ended || end - start >= CALL_BYTES {
             match read_call(&buffer[..end], start) {
                 Next::Call(call, next) => {
-                    push_answer(&step(&mut monitor, call), &mut lines);
+                    let answer = step(&mut monitor, call);
+                    push_fields(&answer, &mut lines);
+                    go_on(&call, &answer, &mut lines);
+                    lines.push(b'\n');
                     start = next;
                 }
                 Next::End => {

@@ -208,12 +208,16 @@ mod tests {
         calls.iter().copied().zip(answers.iter().copied()).collect()
     }
 
-    /// Each edit of the rules is a fault here.
+    /// An edit of the list of refusals, by which no call is answered otherwise.
+    const NO_ANSWER: &str = "later_numbers_no_refusals.edit";
+
+    /// Each edit of the rules but that one is a fault here.
     #[test]
     fn faults_are_the_edits() {
         let mut edits: Vec<String> = read_dir(format!("{CRATES}/rules/must-fail"))
             .unwrap()
             .map(|file| file.unwrap().file_name().into_string().unwrap())
+            .filter(|edit| edit != NO_ANSWER)
             .collect();
         edits.sort();
         let faults = Fault::ALL.iter().map(|fault| fault.edit() + ".edit");

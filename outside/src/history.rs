@@ -308,9 +308,9 @@ fn commit_rules(history: &[Entry], at: usize) -> Option<Broken> {
     }
 }
 
-/// "Refusals are 16 to 28, 32, -5, -6 and -8."
+/// "Refusals are 16 to 28, 32, -5, -6 and -8"; 33 to 39 join them.
 pub fn is_refusal(code: i64) -> bool {
-    matches!(code, 16..=28 | 32 | -5 | -6 | -8)
+    matches!(code, 16..=28 | 32..=39 | -5 | -6 | -8)
 }
 
 /// A refusal returns zeros beside its number and the caller's transaction; up

@@ -4,7 +4,7 @@ use crate::words::Monitor;
 
 #[repr(C)]
 #[derive(Clone, Copy, Debug)]
-struct Call {
+pub struct Call {
     clock: u32,
     party: u32,
     kind: u32,
@@ -15,7 +15,7 @@ struct Call {
 
 #[repr(C)]
 #[derive(Clone, Copy, Debug)]
-struct Answer {
+pub struct Answer {
     code: i64,
     value: u32,
     event: u32,
@@ -25,6 +25,34 @@ struct Answer {
 }
 
 const _: () = assert!(size_of::<Call>() == 24 && size_of::<Answer>() == 32);
+
+impl Call {
+    pub fn new([clock, party, kind, a, b, c]: [u32; 6]) -> Self {
+        Call {
+            clock,
+            party,
+            kind,
+            a,
+            b,
+            c,
+        }
+    }
+}
+
+impl Answer {
+    /// Fields but the code are 32 bits.
+    pub fn new([code, rest @ ..]: [i64; 6]) -> Self {
+        let [value, event, token, service, tx] = rest.map(|n| n as u32);
+        Answer {
+            code,
+            value,
+            event,
+            token,
+            service,
+            tx,
+        }
+    }
+}
 
 /// What running a drill file tells: its code, how many calls were run, and the place after them.
 #[repr(C)]
@@ -70,16 +98,8 @@ pub fn equal(a: &Monitor, b: &Monitor) -> bool {
     unsafe { monitor_equal(a, b) }
 }
 
-pub fn step(m: &mut Monitor, [clock, party, kind, a, b, c]: [u32; 6]) -> [i64; 6] {
-    let call = Call {
-        clock,
-        party,
-        kind,
-        a,
-        b,
-        c,
-    };
-    let r = unsafe { monitor_step(m, call) };
+pub fn step(m: &mut Monitor, call: [u32; 6]) -> [i64; 6] {
+    let r = unsafe { monitor_step(m, Call::new(call)) };
     let [value, event, token, service, tx] =
         [r.value, r.event, r.token, r.service, r.tx].map(i64::from);
     [r.code, value, event, token, service, tx]

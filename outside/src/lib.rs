@@ -7,6 +7,9 @@ pub mod history;
 pub mod kinds;
 #[cfg(feature = "timing")]
 pub mod lent;
+#[cfg(feature = "timing")]
+pub mod lent_wire;
 pub mod monitor;
 pub mod number;
+pub mod wire;
 pub mod words;
