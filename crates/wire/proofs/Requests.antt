@@ -1,7 +1,7 @@
 -- An accepted request: what is written of its call and answer says what its new link says, and is never refused by 22.
 -- Assumes nothing.
-use Prim.Native.Nat.{ℕ, suc, _+_, _-_, _/_, _%_, _≤_, _<_}
-use mathlib.Core.Path.{_≡_, refl, ap, ap₂, sym, _∙_, subst}
+use Prim.Native.Nat.{ℕ, suc, _+_, _≤_, _<_}
+use mathlib.Core.Path.{_≡_, refl, ap, sym, _∙_, subst}
 use mathlib.Core.Logic.{_⊎_, inl, inr, ⊎-elim}
 use mathlib.Core.Bool.{true, false, not, _&&_, _||_}
 use mathlib.Core.List.{List}
@@ -26,7 +26,7 @@ use Rattle.rules.specs.declared.Link.{Link}
 use Rattle.rules.specs.declared.Monitor.{Monitor}
 use Rattle.rules.specs.declared.Ruled.{Ruled}
 use Rattle.rules.specs.declared.Stepped.{Stepped}
-use Rattle.rules.proofs.Logic.{pick-true, pick-false, pick-same, byTest, test, not-both, and-l, and-r, and-true}
+use Rattle.rules.proofs.Logic.{pick-true, byTest, test, not-both, and-l, and-r, and-true}
 use Rattle.rules.proofs.Fine.{noLink, Shape, Fine}
 use Rattle.rules.proofs.Looks.{look-linkOf}
 use Rattle.rules.proofs.Changes.{added-new}
