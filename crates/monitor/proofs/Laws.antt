@@ -12,10 +12,11 @@ use lib.Seq.{length-take-le}
 use Rattle.rules.specs.declared.Party.{Party}
 use Rattle.rules.specs.declared.Link.{Link}
 use Rattle.rules.specs.declared.Monitor.{Monitor}
-use Rattle.rules.specs.Record.{live, party, placeOf, linkOf, replaced, changed, freshParty, freshLink}
+use Rattle.rules.specs.Record.{isReturned, isEnding, live, party, placeOf, linkOf, replaced, changed, freshParty, freshLink}
 use Rattle.rules.specs.Sound.{sound}
 use Rattle.rules.proofs.Logic.{pick-true, byTest}
 use Rattle.rules.proofs.Fine.{Shape}
+use Rattle.rules.proofs.Sound.{sound-ended, sound-placed}
 use Rattle.monitor.specs.View.{linkAt, partyAt, linksFrom, partiesFrom, view, linkIn, liveAt, changedAt}
 use Rattle.monitor.proofs.Lists.{live-cons, live-end, live-at, live-past, rest-cons}
 
@@ -107,3 +108,22 @@ count-kept e h = let c = ap (λ (k : Monitor). k .count) e in omega (arith, h, c
 pub sound-room : (m : Monitor) → sound m ≡ true → m .count ≤ 32
 unfolding sound
 sound-room m e = byTest (λ (b : Bool). b ≡ true → m .count ≤ 32) (λ t _. leb-true _ _ t) (λ _ z. let w : _≡_ {A = ℕ} 0 1 = cc in omega arith) e
+
+-- the link l that was read at the place i is one of those there are
+pub read-live : (xs : List ℕ) (i : ℕ) {l : Link} → view xs .count ≤ 32 → i < view xs .count → l ≡ linkIn (view xs) i → l ≡ liveAt (view xs) i
+read-live xs i h k r = r ∙ sym (live-in xs i h k)
+
+-- and in a sound record
+module _ (xs : List ℕ) (h : sound (view xs) ≡ true) (i : ℕ) (k : i < view xs .count) {l : Link} (r : l ≡ linkIn (view xs) i) where
+  is-live : l ≡ liveAt (view xs) i
+  is-live = read-live xs i (sound-room (view xs) h) k r
+
+  -- it is the first with its number
+  pub read-first : i ≡ placeOf (view xs) (l .number)
+  read-first =
+      let n = live-long xs (sound-room (view xs) h) in
+      sym (ap (λ (x : Link). placeOf (view xs) (x .number)) is-live ∙ sound-placed (view xs) h i (omega arith))
+
+  -- its outcome, if it is returned, is 8, 4 or 2
+  pub read-ended : isReturned l ≡ true → isEnding (l .outcome) ≡ true
+  read-ended t = ap (λ (x : Link). isEnding (x .outcome)) is-live ∙ sound-ended (view xs) h i (ap (λ (x : Link). isReturned x) (sym is-live) ∙ t)

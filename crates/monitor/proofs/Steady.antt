@@ -12,11 +12,15 @@ use Rattle.rules.specs.declared.Stepped.{Stepped}
 use Rattle.rules.specs.Sound.{sound}
 use Rattle.rules.specs.Step.{isKind, advanced, ruleOf, answeredTo, callOf}
 use Rattle.rules.proofs.Logic.{pick-true}
-use Rattle.rules.proofs.Kept.{call-sound-kept}
+use Rattle.rules.proofs.Kept.{clock-sound-kept, call-sound-kept}
 use Rattle.monitor.specs.View.{view}
 use Rattle.monitor.proofs.Laws.{view-shape, sound-room}
 
 module _ (xs : List ℕ) (c : Call) where
+  -- n is the record with its clock set
+  pub clock-sound : {n : Monitor} → n ≡ advanced (view xs) (c .clock) → sound (view xs) ≡ true → sound n ≡ true
+  clock-sound e h = ap (λ (m : Monitor). sound m) e ∙ clock-sound-kept (view xs) (record { shape = view-shape xs; isSound = h }) c .isSound
+
   pub call-sound : sound (view xs) ≡ true → sound (callOf (view xs) c .monitor) ≡ true
   call-sound h = call-sound-kept (view xs) (record { shape = view-shape xs; isSound = h }) c .isSound
 

@@ -57,6 +57,6 @@ unfoldable pub use Rattle.monitor.specs.View.{linkAt, partyAt, ofTx}
 pub use Rattle.rules.proofs.Logic.{pick-true, pick-false, same-eq, same-ne}
 pub use Rattle.monitor.proofs.Lists.{live-past, any-first}
 pub use Rattle.monitor.proofs.Laws.{links-long, parties-long, link-law, party-law, end-live, live-long, live-in}
-pub use Rattle.monitor.proofs.Laws.{end-party, live-of, changed-of, there, nowhere, replaced-of, count-kept, sound-room}
+pub use Rattle.monitor.proofs.Laws.{end-party, live-of, changed-of, there, nowhere, replaced-of, count-kept, sound-room, read-live, read-first, read-ended}
 pub use Rattle.monitor.proofs.Search.{LinkSearch, PartySearch, search-links, search-parties, tested}
 pub use Rattle.monitor.proofs.Search.{found-first, found-any, passed, none-first, none-any}

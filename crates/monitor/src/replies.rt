@@ -1,11 +1,13 @@
 // Kinds 15 and 16: a request's reply fetched, or given up.
 ghost use mathlib.Core.Path.{_≡_};
+ghost use mathlib.Core.Bool.{true};
 ghost use Prim.Native.Nat.{_<_, _≤_};
 ghost use lib.ListN.{length};
 ghost use Rattle.rules.specs.Lists.{firstOf, anyOf};
-ghost use Rattle.rules.specs.Record.{live, placeOf};
+ghost use Rattle.rules.specs.Record.{isEnding, live, placeOf};
 ghost use Rattle.rules.specs.Replies.{requestEnd, outcomeCode, fetched, fetchOne, expiredEnd, repliedEnd, nextReply, fetchAny, fetchOf};
 ghost use Rattle.rules.specs.Replies.{cancelled, cancelOf};
+ghost use Rattle.rules.specs.Sound.{sound};
 ghost use Rattle.monitor.specs.Words.{words};
 ghost use Rattle.monitor.specs.View.{view, linkIn, ruledBy};
 use super::Told;
@@ -35,21 +37,19 @@ pub(crate) fn is_request_end(p: usize, l: Link) -> bool
     (l.kind == 0) & own
 }
 
+// TPESVCERR for TPEV_SVCERR (2), TPESVCFAIL for TPEV_SVCFAIL (4), TP_ACCEPTED for TPEV_SVCSUCC (8), by a sum, without a branch or a table:
+// 31, 31 - 1, 31 - 2 - 29.
 pub(crate) fn outcome_code(o: u32) -> i64
+    requires { ⌜ isEnding o ≡ true ⌝ }
     ensures { λ r. ⌜ r ≡ outcomeCode o ⌝ }
 {
-    if o == codes::TPEV_SVCSUCC {
-        return codes::TP_ACCEPTED;
-    }
-    if o == codes::TPEV_SVCFAIL {
-        return codes::TPESVCFAIL;
-    }
-    codes::TPESVCERR
+    let code = 31 - o / 4 - 29 * (o / 8);
+    code as i64
 }
 
 // The reply of link a, which stands at the place i, is taken, and the link goes; the value is v.
 pub(crate) fn fetch(s: &mut [u32; WORDS], i: usize, a: u32, l: Link, v: u32) -> Told
-    requires { ⌜ (view (now s) .count ≤ 32) × (length (now s) ≡ words) × (i ≡ placeOf (view (now s)) a) ⌝ }
+    requires { ⌜ (view (now s) .count ≤ 32) × (length (now s) ≡ words) × (i ≡ placeOf (view (now s)) a) × (isEnding (l .outcome) ≡ true) ⌝ }
     ensures { λ r. ⌜ (ruledBy r (view (now (s .exit))) ≡ fetched (view (now (s .entry))) a l v) × (length (now (s .exit)) ≡ words) ⌝ }
 {
     remove_at(&mut *s, i, a);
@@ -65,7 +65,7 @@ pub(crate) fn fetch(s: &mut [u32; WORDS], i: usize, a: u32, l: Link, v: u32) -> 
 
 // The reply of link a.
 pub(crate) fn fetch_one(s: &mut [u32; WORDS], p: usize, a: u32) -> Told
-    requires { ⌜ (view (now s) .count ≤ 32) × (length (now s) ≡ words) ⌝ }
+    requires { ⌜ (sound (view (now s)) ≡ true) × (length (now s) ≡ words) ⌝ }
     ensures { λ r. ⌜ (ruledBy r (view (now (s .exit))) ≡ fetchOne (view (now (s .entry))) p a) × (length (now (s .exit)) ≡ words) ⌝ }
 {
     let i = place_of(&*s, a);
@@ -176,7 +176,7 @@ pub(crate) fn next_reply(s: &[u32; WORDS], p: usize, from: usize) -> usize
 
 // Whichever reply is there.
 pub(crate) fn fetch_any(s: &mut [u32; WORDS], p: usize) -> Told
-    requires { ⌜ (view (now s) .count ≤ 32) × (length (now s) ≡ words) ⌝ }
+    requires { ⌜ (sound (view (now s)) ≡ true) × (length (now s) ≡ words) ⌝ }
     ensures { λ r. ⌜ (ruledBy r (view (now (s .exit))) ≡ fetchAny (view (now (s .entry))) p) × (length (now (s .exit)) ≡ words) ⌝ }
 {
     let from = first_request_end(&*s, p);
@@ -192,15 +192,13 @@ pub(crate) fn fetch_any(s: &mut [u32; WORDS], p: usize) -> Told
     if len <= next {
         return coded(codes::NO_REPLY_YET);
     }
-    // the link goes by its number: that its place is the first with this number would take a sound record
     let l = link_at(&*s, next);
-    let i = place_of(&*s, l.number);
-    fetch(&mut *s, i, l.number, l, l.number)
+    fetch(&mut *s, next, l.number, l, l.number)
 }
 
 // Kind 15.
 pub(crate) fn tpgetrply(s: &mut [u32; WORDS], p: usize, a: u32, b: u32) -> Told
-    requires { ⌜ (view (now s) .count ≤ 32) × (length (now s) ≡ words) ⌝ }
+    requires { ⌜ (sound (view (now s)) ≡ true) × (length (now s) ≡ words) ⌝ }
     ensures { λ r. ⌜ (ruledBy r (view (now (s .exit))) ≡ fetchOf (view (now (s .entry))) p a b) × (length (now (s .exit)) ≡ words) ⌝ }
 {
     if b > 1 {

@@ -43,7 +43,7 @@ use rules::codes;
 
 // Each kind decides by its number.
 pub(crate) fn rule(s: &mut [u32; WORDS], p: usize, k: u32, a: u32, b: u32, c: u32) -> Told
-    requires { ⌜ (p < 16) × (view (now s) .count ≤ 32) × (length (now s) ≡ words) ⌝ }
+    requires { ⌜ (p < 16) × (sound (view (now s)) ≡ true) × (length (now s) ≡ words) ⌝ }
     ensures { λ r. ⌜ (ruledBy r (view (now (s .exit))) ≡ ruleOf (view (now (s .entry))) p k a b c) × (length (now (s .exit)) ≡ words) ⌝ }
 {
     match k {

@@ -34,7 +34,7 @@ parties-frame m fr ps e =
     }
 
 -- ---- in a list: the first place that passes a test, and a place at which l stands instead
-place-fits : (f : Link → Bool) (ls : List Link) → firstOf f ls < length ls → f (getD ls (firstOf f ls) freshLink) ≡ true
+pub place-fits : (f : Link → Bool) (ls : List Link) → firstOf f ls < length ls → f (getD ls (firstOf f ls) freshLink) ≡ true
 unfolding firstOf pick
 place-fits f [] h = absurd (omega arith)
 place-fits f (x ∷ xs) h = test (f x) (λ q. rw q q) (λ q. rw q (place-fits f xs (let r = rw q at h in omega arith)))
@@ -50,6 +50,15 @@ place-above : (lo hi i : ℕ) (ls : List Link) → Between lo ls hi → i < leng
 place-above lo hi i [] h k = absurd (omega arith)
 place-above lo hi zero (x ∷ xs) h k = h .0
 place-above lo hi (suc i) (x ∷ xs) h k = let r = place-above (x .number) hi i xs (h .1) (omega arith) in let a = h .0 in omega arith
+
+-- the link at a place is the first with its number
+pub place-first : (lo hi i : ℕ) (ls : List Link) → Between lo ls hi → i < length ls → firstOf (numbered (getD ls i freshLink .number)) ls ≡ i
+unfolding firstOf numbered pick
+place-first lo hi i [] h k = absurd (omega arith)
+place-first lo hi zero (x ∷ xs) h k = rw (same-refl (x .number))
+place-first lo hi (suc i) (x ∷ xs) h k =
+    rw (same-ne (x .number) (getD xs i freshLink .number) (let r = place-above (x .number) hi i xs (h .1) (omega arith) in omega arith))
+    (ap suc (place-first (x .number) hi i xs (h .1) (omega arith)))
 
 module _ (l : Link) where
   set-between : (lo hi i : ℕ) (ls : List Link) → Between lo ls hi → i < length ls → l .number ≡ getD ls i freshLink .number → Between lo (set ls i l) hi

@@ -6,10 +6,10 @@ use mathlib.Core.Bool.{Bool, true, false, _&&_}
 use Prim.Native.Nat.{ℕ, zero, suc, _+_, _<_}
 use native.Mathlib.Omega.{arith}
 use lib.Dec.{eqb, ltb, leb}
-use lib.ListN.{getD}
+use lib.ListN.{length, getD}
 use borrow.Author.Tests.{ltb-true, leb-true, lt-ltb, le-leb}
 use Rattle.rules.specs.Choice.{pick, same}
-use Rattle.rules.specs.Record.{freshParty, freshMonitor, isWorking, party, live, linkOf, working, withClock}
+use Rattle.rules.specs.Record.{freshParty, freshLink, freshMonitor, isWorking, isReturned, isEnding, party, live, placeOf, linkOf, working, withClock}
 use Rattle.rules.specs.Sound.{linkGood, choicesGood, linksGood, worksFor, partyGood, partiesGood, sound}
 use Rattle.rules.specs.declared.Call.{Call}
 use Rattle.rules.specs.declared.Link.{Link}
@@ -19,12 +19,13 @@ use Rattle.rules.specs.declared.Ruled.{Ruled}
 use Rattle.rules.proofs.Logic.{Nz, pick-true, pick-false, test, byTest, not-both, same-refl, same-true, same-ne, and-l, and-r, and-true, byNumber}
 use Rattle.rules.proofs.Fine.{noLink, look, Between, Shape, Fine}
 use Rattle.rules.proofs.Looks.{look-below, look-next, linkOf-look, look-linkOf}
+use Rattle.rules.proofs.Changes.{place-first}
 use Rattle.rules.proofs.History.Moves.{Like, Left, alike, gone, shut, back, Idle, Ends, Begins, Makes, Takes, Move, quiet, sends, grants}
 use Rattle.rules.proofs.History.Moves.{finishes, cancels, disconnects, leaves, ends, begins, renews, makes, makesFree, takes}
 use Rattle.rules.proofs.History.Left.{fades-works}
 use Rattle.rules.proofs.History.Tells.{Tell}
 use Rattle.rules.proofs.History.Walk.Moved.{Moved}
-use Rattle.rules.proofs.History.Walk.LinkChanges.{noLink-good, working-waits-not, working-good}
+use Rattle.rules.proofs.History.Walk.LinkChanges.{noLink-good, working-waits-not, working-good, returned-ending}
 
 -- ---- the links
 -- a choice whose other side is false
@@ -49,6 +50,14 @@ links-good last prev [] h d = noLink-good
 links-good last prev (l ∷ ls) h d =
     let b = both _ _ h in
     byTest (λ (x : Link). linkGood x ≡ true) (λ _. and-r (ltb prev (l .number)) _ (b .0)) (λ _. links-good last (l .number) ls (b .1) d)
+
+-- whichever place it stands at, a returned link's outcome is 8, 4 or 2
+links-ended : (last prev : ℕ) (ls : List Link) → linksGood last prev ls ≡ true → (i : ℕ)
+    → isReturned (getD ls i freshLink) ≡ true → isEnding (getD ls i freshLink .outcome) ≡ true
+unfolding linksGood
+links-ended last prev [] h i r = not-both r refl
+links-ended last prev (l ∷ ls) h zero r = returned-ending l (and-r (ltb prev (l .number)) _ (both _ _ h .0)) r
+links-ended last prev (l ∷ ls) h (suc i) r = links-ended last (l .number) ls (both _ _ h .1) i r
 
 good-links : (last prev : ℕ) (ls : List Link) → Between prev ls last → ((d : ℕ) → linkGood (look d ls) ≡ true) → linksGood last prev ls ≡ true
 unfolding linksGood look
@@ -96,16 +105,32 @@ module _ (m : Monitor) where
   unfolding worksFor noLink
   look-works p d h = subst (λ (x : Link). isWorking x && same (x .server) p ≡ true) (sym (look-linkOf m (λ l. isWorking l) refl d (and-l _ _ h))) h
 
+-- ---- the lists of a sound record
+sound-lists : (m : Monitor) → sound m ≡ true → linksGood (m .lastlink) 0 (live m) && partiesGood m 0 (m .parties) ≡ true
+unfolding sound
+sound-lists m h = and-r (leb (m .lasttx) 60000) _ (and-r (leb (m .lastlink) 60000) _ (both _ _ h .1))
+
+sound-links : (m : Monitor) → sound m ≡ true → linksGood (m .lastlink) 0 (live m) ≡ true
+sound-links m h = and-l _ _ (sound-lists m h)
+
+-- a returned link's outcome is 8, 4 or 2
+pub sound-ended : (m : Monitor) → sound m ≡ true → (i : ℕ)
+    → isReturned (getD (live m) i freshLink) ≡ true → isEnding (getD (live m) i freshLink .outcome) ≡ true
+sound-ended m h i r = links-ended (m .lastlink) 0 (live m) (sound-links m h) i r
+
+-- the link at a place is the first with its number
+pub sound-placed : (m : Monitor) → sound m ≡ true → (i : ℕ) → i < length (live m) → placeOf m (getD (live m) i freshLink .number) ≡ i
+sound-placed m h i k = place-first 0 (m .lastlink) i (live m) (links-rise (m .lastlink) 0 (live m) (sound-links m h)) k
+
 -- ---- both ways
 pub sound-fine : (m : Monitor) → Shape m → sound m ≡ true → Fine m
 unfolding sound worksFor
 sound-fine m sh h =
     let b = both _ _ h in
     let c = and-r (leb (m .lastlink) 60000) _ (b .1) in
-    let d = and-r (leb (m .lasttx) 60000) _ c in
-    let ls = and-l (linksGood (m .lastlink) 0 (live m)) _ d in
+    let ls = sound-links m h in
     let ps : (q : ℕ) → partyGood m q (party m q) ≡ true =
-    λ q. parties-good m 0 q q (m .parties) (omega arith) (and-r (linksGood (m .lastlink) 0 (live m)) _ d)
+    λ q. parties-good m 0 q q (m .parties) (omega arith) (and-r (linksGood (m .lastlink) 0 (live m)) _ (sound-lists m h))
     in
     let ws : (q : ℕ) → Nz (party m q .served) → worksFor q (look (party m q .served) (live m)) ≡ true =
     λ q n. works-look m q (party m q .served) (party-works m q (party m q) (ps q) n)

@@ -2,12 +2,12 @@
 -- Assumes nothing.
 use Prim.Native.Nat.{ℕ, _+_, _-_}
 use mathlib.Core.List.{List, [], _∷_, _++_}
-use mathlib.Core.Bool.{Bool, not, _&&_}
+use mathlib.Core.Bool.{Bool, not, _&&_, _||_}
 use lib.ListN.{length, set, getD, take, drop, replicate}
 use lib.Dec.{eqb, ltb}
 use lib.IntN.{ℤ}
 use Rattle.rules.specs.Choice.{pick, same}
-use Rattle.rules.specs.Codes.{tpAccepted}
+use Rattle.rules.specs.Codes.{tpAccepted, tpevSvcErr, tpevSvcFail, tpevSvcSucc}
 use Rattle.rules.specs.Lists.{firstOf, collect}
 use Rattle.rules.specs.declared.Ruled.{Ruled}
 use Rattle.rules.specs.declared.Party.{Party}
@@ -73,6 +73,10 @@ isWorking l = eqb (l .state) 1
 
 abbrev pub isReturned : Link → Bool
 isReturned l = eqb (l .state) 2
+
+-- an outcome that a service returns with
+abbrev pub isEnding : ℕ → Bool
+isEnding o = eqb o tpevSvcErr || (eqb o tpevSvcFail || eqb o tpevSvcSucc)
 
 -- disconnected, and its server not yet notified (document 01: cut, not told)
 abbrev pub isDisconnected : Link → Bool

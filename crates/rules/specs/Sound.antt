@@ -5,8 +5,7 @@ use mathlib.Core.List.{List, [], _∷_}
 use mathlib.Core.Bool.{Bool, true, false, not, _&&_, _||_}
 use lib.Dec.{eqb, ltb, leb}
 use Rattle.rules.specs.Choice.{pick, same}
-use Rattle.rules.specs.Codes.{tpevSvcErr, tpevSvcFail, tpevSvcSucc}
-use Rattle.rules.specs.Record.{isWorking, isReturned, live, linkOf}
+use Rattle.rules.specs.Record.{isWorking, isReturned, isEnding, live, linkOf}
 use Rattle.rules.specs.declared.Party.{Party}
 use Rattle.rules.specs.declared.Link.{Link}
 use Rattle.rules.specs.declared.Monitor.{Monitor}
@@ -16,7 +15,7 @@ use Rattle.rules.specs.declared.Monitor.{Monitor}
 abbrev pub linkGood : Link → Bool
 linkGood l =
     leb (l .kind) 1 && (leb (l .originator) 15 && (leb (l .attached) 1 && (leb (l .state) 2 && (leb (l .server) 15
-    && ((eqb (l .outcome) 0 || (eqb (l .outcome) tpevSvcErr || (eqb (l .outcome) tpevSvcFail || eqb (l .outcome) tpevSvcSucc)))
+    && ((eqb (l .outcome) 0 || isEnding (l .outcome))
     && (leb (l .sender) 1 && (leb (l .granting) 1 && (leb (l .disconnected) 2 && (leb (l .filled) 4 && not (isReturned l && eqb (l .outcome) 0))))))))))
 
 -- "their numbers rise strictly from 1 to at most the last number", from above prev; and each link is good

@@ -1,4 +1,5 @@
-// The numbers of calls and answers, by meaning: a name for each place that answers one, as specs/Codes has them.
+// The numbers of calls and answers, by meaning: a name for each place that answers one, as specs/Codes has them. TPESVCFAIL and TPESVCERR have none
+// here: they come of a sum (replies::outcome_code of monitor).
 
 // ---- TX (document 002)
 pub const TX_OK: i64 = 0;
@@ -70,10 +71,6 @@ pub const NO_SUCH_SEQUENCE: i64 = 33;
 pub const TP_ACCEPTED: i64 = 0;
 // an event came, which the answer names
 pub const TPEEVENT: i64 = 29;
-
-pub const TPESVCFAIL: i64 = 30;
-
-pub const TPESVCERR: i64 = 31;
 
 // ---- events; how a service returned is its link's outcome, too
 pub const TPEV_DISCONIMM: u32 = 1;

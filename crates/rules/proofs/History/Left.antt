@@ -5,12 +5,12 @@ use mathlib.Core.Bool.{true, false, _||_}
 use Prim.Native.Nat.{ℕ, _≤_}
 use native.Mathlib.Omega.{arith}
 use Rattle.rules.specs.Choice.{same}
-use Rattle.rules.specs.Record.{isAttached, isWaiting, isWorking, isReturned}
+use Rattle.rules.specs.Record.{isAttached, isWaiting, isWorking, isReturned, isEnding}
 use Rattle.rules.specs.Sound.{linkGood}
 use Rattle.rules.specs.declared.Link.{Link}
 use Rattle.rules.proofs.Logic.{Nz, same-refl, same-true, test, not-both, or-cases, or-true, byNumber}
 use Rattle.rules.proofs.Fine.{noLink}
-use Rattle.rules.proofs.History.Moves.{isEnding, isWhole, Like, Left, alike, gone, shut, back}
+use Rattle.rules.proofs.History.Moves.{isWhole, Like, Left, alike, gone, shut, back}
 
 pub like-refl : {l l′ : Link} → l′ ≡ l → Like l l′
 like-refl e = record {

@@ -6,7 +6,7 @@ use mathlib.Core.Bool.{Bool, true, false, _||_}
 use Prim.Native.Nat.{ℕ, suc}
 use lib.Dec.{eqb}
 use Rattle.rules.specs.Choice.{same}
-use Rattle.rules.specs.Record.{isConversation, isAttached, isWaiting, isWorking, isRollbackOnly, working, returned}
+use Rattle.rules.specs.Record.{isConversation, isAttached, isWaiting, isWorking, isEnding, isRollbackOnly, working, returned}
 use Rattle.rules.specs.Sound.{linkGood}
 use Rattle.rules.specs.declared.Call.{Call}
 use Rattle.rules.specs.declared.Link.{Link}
@@ -14,9 +14,6 @@ use Rattle.rules.specs.declared.Party.{Party}
 use Rattle.rules.proofs.Logic.{Nz}
 use Rattle.rules.proofs.Fine.{noLink, txP}
 use Rattle.rules.proofs.History.Tells.{Tell, nothing, sent, given, made, taken, finished, disconnected, left, canStart}
-
-abbrev pub isEnding : ℕ → Bool
-isEnding o = eqb o 2 || (eqb o 4 || eqb o 8)
 
 -- neither disconnected nor notified
 abbrev pub isWhole : Link → Bool

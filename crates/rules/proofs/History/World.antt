@@ -4,12 +4,12 @@ use mathlib.Core.Path.{_≡_}
 use mathlib.Core.Bool.{Bool, true, false, not, _&&_, _||_}
 use Prim.Native.Nat.{ℕ, _≤_, _<_}
 use Rattle.rules.specs.Choice.{same}
-use Rattle.rules.specs.Record.{isAttached, isWaiting, isWorking, isReturned, isRollbackOnly}
+use Rattle.rules.specs.Record.{isAttached, isWaiting, isWorking, isReturned, isEnding, isRollbackOnly}
 use Rattle.rules.specs.declared.Link.{Link}
 use Rattle.rules.specs.declared.Party.{Party}
 use Rattle.rules.proofs.Logic.{Nz}
 use Rattle.rules.proofs.Fine.{txP}
-use Rattle.rules.proofs.History.Moves.{isEnding, isWhole}
+use Rattle.rules.proofs.History.Moves.{isWhole}
 use Rattle.rules.proofs.History.Shows.{Shows}
 
 -- with the last link number n and the last transaction number m

@@ -6,7 +6,7 @@ use Prim.Native.Nat.{ℕ, suc, _≤_}
 use native.Mathlib.Omega.{arith}
 use borrow.Author.Tests.{eqb-true}
 use Rattle.rules.specs.Choice.{same}
-use Rattle.rules.specs.Record.{isRollbackOnly, isAttached, isWaiting, isWorking, isReturned, working}
+use Rattle.rules.specs.Record.{isRollbackOnly, isAttached, isWaiting, isWorking, isReturned, isEnding, working}
 use Rattle.rules.specs.declared.Link.{Link}
 use Rattle.rules.specs.declared.Party.{Party}
 use Rattle.rules.proofs.Logic.{pick-true, pick-false, test, not-both, same-refl, same-true, same-false, same-ne}
@@ -14,7 +14,7 @@ use Rattle.rules.proofs.Logic.{and-l, and-false, or-true, or-false, Nz,
 use Rattle.rules.proofs.Fine.{txP}
 use Rattle.rules.proofs.History.Tells.{nothing, made, taken}
 use Rattle.rules.proofs.History.Shows.{Shows, Next}
-use Rattle.rules.proofs.History.Moves.{isEnding, isWhole, Ends, Begins, Makes, Takes}
+use Rattle.rules.proofs.History.Moves.{isWhole, Ends, Begins, Makes, Takes}
 use Rattle.rules.proofs.History.World.{World}
 use Rattle.rules.proofs.History.Left.{left-nought, like-refl}
 use Rattle.rules.proofs.History.Stamped.{txP-keeps, agrees, unstamped, stamped, plain-nothing, plainly}

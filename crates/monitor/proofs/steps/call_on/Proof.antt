@@ -1,8 +1,8 @@
 -- `steps::call_on` meets its contract.
 use Rattle.monitor.proofs.Usual.{ap, sym, _∙_, arith, needs, lt-leb, not-true, not-false, Stepped, sound, turnedDown}
-use Rattle.monitor.proofs.Usual.{callOf, view, stepped, pick-true, pick-false, count-kept, sound-room}
+use Rattle.monitor.proofs.Usual.{callOf, view, stepped, pick-true, pick-false}
 use Rattle.rules.specs.declared.Answer.{Answer}
-use Rattle.monitor.proofs.Steady.{call-sound, told-call, rule-room}
+use Rattle.monitor.proofs.Steady.{clock-sound, call-sound, told-call, rule-room}
 use Rattle.monitor.proofs.steps.call_on.Statement.{statement}
 use Rattle.monitor.proofs.steps.call_on.Tie as tie
 
@@ -47,7 +47,7 @@ rule-requires c κs =
     let is-kind = is-party .before .before in
     let start = is-kind .before .before .before in
     let v = advanced .advance .ensures in
-    (omega (arith, is-party .if2 .left), count-kept (v .0) (sound-room _ (start .pre .0)), v .1)
+    (omega (arith, is-party .if2 .left), clock-sound (start .args .s .now) (start .args .c) (v .0) (start .pre .0), v .1)
 
 tell-requires : tie.Need-tell-requires
 tell-requires c κs =

@@ -1,7 +1,7 @@
 -- `steps::rule` meets its contract: the rule of the kind that the match found.
 use Prim.Native.Nat.{zero}
 use Rattle.monitor.proofs.Usual.{ℕ, suc, _≤_, _<_, _≡_, ap, sym, _∙_, false, ⊎-elim, arith, needs, eqb, ne-eqb, Monitor, Ruled, pick}
-use Rattle.monitor.proofs.Usual.{unknownKind, ruled, ruleOf, Told, view, ruledBy, pick-false}
+use Rattle.monitor.proofs.Usual.{unknownKind, ruled, ruleOf, Told, view, ruledBy, pick-false, sound-room}
 use Rattle.monitor.proofs.steps.rule.Statement.{statement}
 use Rattle.monitor.proofs.steps.rule.Tie as tie
 
@@ -51,31 +51,31 @@ unknown m p k a b c h =
     ∙ pick-false _ _ _ (other 21 (omega arith))
 
 tx-open-requires : tie.Need-tx-open-requires
-tx-open-requires c κs = search needs
+tx-open-requires c κs = search (needs, sound-room)
 
 tx-close-requires : tie.Need-tx-close-requires
-tx-close-requires c κs = search needs
+tx-close-requires c κs = search (needs, sound-room)
 
 tx-begin-requires : tie.Need-tx-begin-requires
-tx-begin-requires c κs = search needs
+tx-begin-requires c κs = search (needs, sound-room)
 
 tx-commit-requires : tie.Need-tx-commit-requires
-tx-commit-requires c κs = search needs
+tx-commit-requires c κs = search (needs, sound-room)
 
 tx-rollback-requires : tie.Need-tx-rollback-requires
-tx-rollback-requires c κs = search needs
+tx-rollback-requires c κs = search (needs, sound-room)
 
 tx-info-requires : tie.Need-tx-info-requires
-tx-info-requires c κs = search needs
+tx-info-requires c κs = search (needs, sound-room)
 
 tx-set-commit-return-requires : tie.Need-tx-set-commit-return-requires
-tx-set-commit-return-requires c κs = search needs
+tx-set-commit-return-requires c κs = search (needs, sound-room)
 
 tx-set-transaction-control-requires : tie.Need-tx-set-transaction-control-requires
-tx-set-transaction-control-requires c κs = search needs
+tx-set-transaction-control-requires c κs = search (needs, sound-room)
 
 tx-set-transaction-timeout-requires : tie.Need-tx-set-transaction-timeout-requires
-tx-set-transaction-timeout-requires c κs = search needs
+tx-set-transaction-timeout-requires c κs = search (needs, sound-room)
 
 tpadvertise-requires : tie.Need-tpadvertise-requires
 tpadvertise-requires c κs = search needs
@@ -84,34 +84,34 @@ tpunadvertise-requires : tie.Need-tpunadvertise-requires
 tpunadvertise-requires c κs = search needs
 
 tpacall-requires : tie.Need-tpacall-requires
-tpacall-requires c κs = search needs
+tpacall-requires c κs = search (needs, sound-room)
 
 tpconnect-requires : tie.Need-tpconnect-requires
-tpconnect-requires c κs = search needs
+tpconnect-requires c κs = search (needs, sound-room)
 
 dispatch-requires : tie.Need-dispatch-requires
-dispatch-requires c κs = search needs
+dispatch-requires c κs = search (needs, sound-room)
 
 tpgetrply-requires : tie.Need-tpgetrply-requires
 tpgetrply-requires c κs = search needs
 
 tpcancel-requires : tie.Need-tpcancel-requires
-tpcancel-requires c κs = search needs
+tpcancel-requires c κs = search (needs, sound-room)
 
 tpsend-requires : tie.Need-tpsend-requires
-tpsend-requires c κs = search needs
+tpsend-requires c κs = search (needs, sound-room)
 
 tprecv-requires : tie.Need-tprecv-requires
-tprecv-requires c κs = search needs
+tprecv-requires c κs = search (needs, sound-room)
 
 tpdiscon-requires : tie.Need-tpdiscon-requires
-tpdiscon-requires c κs = search needs
+tpdiscon-requires c κs = search (needs, sound-room)
 
 tpreturn-requires : tie.Need-tpreturn-requires
-tpreturn-requires c κs = search needs
+tpreturn-requires c κs = search (needs, sound-room)
 
 terminate-requires : tie.Need-terminate-requires
-terminate-requires c κs = search needs
+terminate-requires c κs = search (needs, sound-room)
 
 coded-requires : tie.Need-coded-requires
 coded-requires c κs = search needs

@@ -7,13 +7,13 @@ use Prim.Native.Nat.{ℕ, _+_, _-_, _<_}
 use native.Mathlib.Omega.{arith}
 use lib.Dec.{eqb, leb, ltb}
 use borrow.Author.Tests.{eqb-true, leb-true, ltb-true, le-leb}
-use Rattle.rules.specs.Record.{isAttached, isWaiting, isWorking, isReturned, isDisconnected, isNotified, ownEnd, withEnds, withUnread}
+use Rattle.rules.specs.Record.{isAttached, isWaiting, isWorking, isReturned, isEnding, isDisconnected, isNotified, ownEnd, withEnds, withUnread}
 use Rattle.rules.specs.Record.{closed, dropped, disconnectedLink, notified, newLink, working, returned, withSent, withoutOldest}
 use Rattle.rules.specs.Sound.{linkGood}
 use Rattle.rules.specs.declared.Link.{Link}
 use Rattle.rules.proofs.Logic.{test, not-both, and-l, and-r, and-true, not-true, or-cases, or-true, same-refl}
 use Rattle.rules.proofs.Fine.{noLink}
-use Rattle.rules.proofs.History.Moves.{isEnding, isWhole, Like, Shut, Back, Left}
+use Rattle.rules.proofs.History.Moves.{isWhole, Like, Shut, Back, Left}
 
 -- ---- a good link, taken apart
 pub record Parts (l : Link) : Type 0 where

@@ -7,7 +7,7 @@ use lib.Dec.{eqb}
 use lib.ListN.{getD}
 use borrow.Author.Tests.{eqb-true}
 use Rattle.rules.specs.Choice.{same}
-use Rattle.rules.specs.Record.{freshParty, isRollbackOnly, isAttached, isWaiting, isWorking, party, live, linkOf, serving, withParty, changed}
+use Rattle.rules.specs.Record.{freshParty, isRollbackOnly, isAttached, isWaiting, isWorking, isEnding, party, live, linkOf, serving, withParty, changed}
 use Rattle.rules.specs.Return.{unreadAfter, rollbackOnlyServed, servesNone, handBack, leave}
 use Rattle.rules.specs.declared.Link.{Link}
 use Rattle.rules.specs.declared.Party.{Party}
@@ -17,7 +17,7 @@ use Rattle.rules.proofs.Fine.{look, Frame, Fine}
 use Rattle.rules.proofs.Looks.{look-number, linkOf-tx, linkOf-served, served-there}
 use Rattle.rules.proofs.Parties.{party-same, party-other, party-frame, Marks, marks-owned}
 use Rattle.rules.proofs.Changes.{changed-parties, changed-same, changed-other, changed-frame}
-use Rattle.rules.proofs.History.Moves.{isWhole, isEnding, Like}
+use Rattle.rules.proofs.History.Moves.{isWhole, Like}
 use Rattle.rules.proofs.History.Left.{like-refl}
 use Rattle.rules.proofs.History.Walk.Parting.{partLeft, handLeft, Closing, part-closing, part-works, part-dull, unread-like, hand-closing}
 use Rattle.rules.proofs.History.Walk.Leaving.{Numbers, numbers-then, changed-numbers, shed, shed-owned, shedAll, shedAll-frame, shedAll-look}

@@ -5,13 +5,13 @@ use mathlib.Core.Bool.{true, false, _||_}
 use Prim.Native.Nat.{ℕ}
 use lib.Dec.{eqb}
 use Rattle.rules.specs.Choice.{pick, same}
-use Rattle.rules.specs.Record.{isAttached, isWaiting, isWorking, ownEnd, returned}
+use Rattle.rules.specs.Record.{isAttached, isWaiting, isWorking, isEnding, ownEnd, returned}
 use Rattle.rules.specs.Return.{closeEnd, unreadAfter}
 use Rattle.rules.specs.declared.Link.{Link}
 use Rattle.rules.proofs.Logic.{byTest, test, not-both, pick-false, and-r, same-true, Nz}
 use Rattle.rules.proofs.Fine.{noLink}
 use Rattle.rules.proofs.Changes.{Thin, Thins, none, one, leftIn, leftBy}
-use Rattle.rules.proofs.History.Moves.{isWhole, isEnding, Like, Back, Left, gone, back}
+use Rattle.rules.proofs.History.Moves.{isWhole, Like, Back, Left, gone, back}
 use Rattle.rules.proofs.History.Left.{like-refl}
 use Rattle.rules.proofs.History.Walk.LinkChanges.{noLink-attached, noLink-waiting, working-returned-not, closed-shut, disconnectedLink-shut}
 use Rattle.rules.proofs.History.Walk.LinkChanges.{dropped-like, returned-back, own-end, noLink-own}

@@ -7,7 +7,7 @@ use lib.Dec.{eqb}
 use Rattle.rules.specs.Choice.{pick, same}
 use Rattle.rules.specs.Codes.{badArgument, notAllowedNow}
 use Rattle.rules.specs.Lists.{anyOf}
-use Rattle.rules.specs.Record.{freshParty, isRollbackOnly, isAttached, ownEnd, party, live, serving, withParty, valued}
+use Rattle.rules.specs.Record.{freshParty, isRollbackOnly, isAttached, isEnding, ownEnd, party, live, serving, withParty, valued}
 use Rattle.rules.specs.Sound.{choicesGood}
 use Rattle.rules.specs.Return.{plainOutcome, outcomeOf, leave, returnWith, returnOf, diedOut, terminateOf}
 use Rattle.rules.specs.declared.Call.{Call}
@@ -18,7 +18,7 @@ use Rattle.rules.proofs.Logic.{byTest, test, not-both, not-true, pick-t
 use Rattle.rules.proofs.Fine.{look, Fine}
 use Rattle.rules.proofs.Looks.{look-zero, any-one}
 use Rattle.rules.proofs.Parties.{marks-owned, marks-served, marks-grow, mark-good, marks-good}
-use Rattle.rules.proofs.History.Moves.{isEnding, Sane, Loses, Leaves, leaves}
+use Rattle.rules.proofs.History.Moves.{Sane, Loses, Leaves, leaves}
 use Rattle.rules.proofs.History.Tells.{left}
 use Rattle.rules.proofs.History.Walk.Moved.{eventOf, timeAfter, loses, Moved}
 use Rattle.rules.proofs.History.Walk.Says.{says-left, time-kept, time-none}

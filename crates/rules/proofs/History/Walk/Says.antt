@@ -7,6 +7,7 @@ use lib.Dec.{eqb, leb}
 use lib.IntN.{ℤ, pos}
 use borrow.Author.Tests.{eqb-true, ne-eqb}
 use Rattle.rules.specs.Choice.{same}
+use Rattle.rules.specs.Record.{isEnding}
 use Rattle.rules.specs.Transaction.{txOf}
 use Rattle.rules.specs.Step.{answeredTo}
 use Rattle.rules.specs.History.{ofKind, sameCode, unheard, answeredBy, withValue, withEvent, accepted, past21, replied, linkOn, flag2, endsIn}
@@ -15,7 +16,6 @@ use Rattle.rules.specs.declared.Ruled.{Ruled}
 use Rattle.rules.proofs.Logic.{not-both, Nz, or-l, or-r, or-cases, and-yes, and-false, and-l, and-r, not-true, cond-same}
 use Rattle.rules.proofs.AnswerCodes.{of-code}
 use Rattle.rules.proofs.History.Tells.{Tell, nothing, sent, given, made, taken, finished, disconnected, left, endingEvent, tellOf, Valueless}
-use Rattle.rules.proofs.History.Moves.{isEnding}
 use Rattle.rules.proofs.History.Walk.Moved.{eventOf, timeAfter}
 
 -- a code past question 21
