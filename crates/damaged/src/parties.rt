@@ -28,6 +28,23 @@ pub fn choices() {
     q.opened = 255;
     m.parties[15] = q;
     show(b"opened 255, of party 15", m);
+    reports();
+}
+
+// "one report or none a manager": 0, or 1 + b, or 8 + b where it can't start
+fn reports() {
+    let mut q = server();
+    q.reports[0] = 15;
+    show_party(b"report 15 of the first manager", q);
+    let mut q = server();
+    q.reports[1] = 256;
+    show_party(b"report 256 of the second manager", q);
+    let mut q = server();
+    q.reports[2] = 4294967295;
+    show_party(b"report 4294967295 of the third manager", q);
+    let mut q = server();
+    q.reports[3] = 15;
+    show_party(b"report 15 of the fourth manager", q);
 }
 
 fn show_served(name: &[u8], served: u32) {
@@ -77,6 +94,7 @@ pub fn sound() {
     q.owned = 4294967295;
     q.deadline = 18446744073709551615;
     q.rollbackonly = 1;
+    q.reports = [14; 4];
     show_party(b"sound, a party's other fields at their greatest", q);
     show_served(b"sound, served 0 beside a working link", 0);
 }

@@ -1,4 +1,4 @@
-// A record as the words that a host lends: 4 of the head, 10 of each party, 19 of each link, a number of 64 bits as two, the low half first.
+// A record as the words that a host lends: 4 of the head, 14 of each party, 19 of each link, a number of 64 bits as two, the low half first.
 ghost use Prim.Native.Nat.{_<_};
 use monitor::Store;
 use rules::Link;
@@ -13,7 +13,8 @@ fn high(x: u64) -> u32 {
     (x / 4294967296) as u32
 }
 
-fn party_words(q: Party) -> [u32; 10] {
+fn party_words(q: Party) -> [u32; 14] {
+    let r = q.reports;
     [
         q.opened,
         q.control,
@@ -25,6 +26,10 @@ fn party_words(q: Party) -> [u32; 10] {
         high(q.deadline),
         q.rollbackonly,
         q.served,
+        r[0],
+        r[1],
+        r[2],
+        r[3],
     ]
 }
 
@@ -53,12 +58,12 @@ fn link_words(l: Link) -> [u32; 19] {
     ]
 }
 
-fn with_party(mut s: Store, p: usize, words: [u32; 10]) -> Store
+fn with_party(mut s: Store, p: usize, words: [u32; 14]) -> Store
     requires { ⌜ p < 16 ⌝ }
 {
     let mut k = 0;
-    while k < 10 {
-        let at = 4 + p * 10 + k;
+    while k < 14 {
+        let at = 4 + p * 14 + k;
         let w = words[k];
         s.words[at] = w;
         k += 1;
@@ -71,7 +76,7 @@ fn with_link(mut s: Store, i: usize, words: [u32; 19]) -> Store
 {
     let mut k = 0;
     while k < 19 {
-        let at = 164 + i * 19 + k;
+        let at = 228 + i * 19 + k;
         let w = words[k];
         s.words[at] = w;
         k += 1;

@@ -11,6 +11,7 @@ pub mod Opening
 pub mod Pieces
 pub mod Prefixes
 pub mod Put
+pub mod Reports
 pub mod Search
 pub mod Served
 pub mod Sets

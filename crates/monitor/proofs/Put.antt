@@ -10,7 +10,7 @@ use lib.Seq.{sets, length-sets, getD-set-same, getD-set-other}
 use Rattle.rules.specs.declared.Party.{Party}
 use Rattle.rules.specs.declared.Link.{Link}
 use Rattle.rules.specs.declared.Monitor.{Monitor}
-use Rattle.rules.specs.Record.{withUnread, offering, owning, withClock, withLastLink, withLastTx, withParty, withCount, replaced}
+use Rattle.rules.specs.Record.{withUnread, withReports, offering, owning, withClock, withLastLink, withLastTx, withParty, withCount, replaced}
 use Rattle.monitor.specs.Words.{headSize, partySize, linkSize, partyBase, linkBase, words, linkWords, partyWords, storedFrom, stored}
 use Rattle.monitor.specs.View.{linkAt, partyAt, linksFrom, partiesFrom, view}
 
@@ -102,6 +102,7 @@ partyFrom ws = record {
   deadline = getD ws 6 0 + getD ws 7 0 * 4294967296;
   rollbackonly = getD ws 8 0;
   served = getD ws 9 0;
+  reports = getD ws 10 0 ∷ getD ws 11 0 ∷ getD ws 12 0 ∷ getD ws 13 0 ∷ [];
 }
 
 headFrom : List ℕ → List Party → List Link → Monitor
@@ -189,7 +190,7 @@ module _ (ys xs : List ℕ) where
       let back : Same ys xs (partyBase (suc j + d) + partySize) (partyBase (suc j + m)) = λ k u v. b k (omega arith) (omega arith) in
       λ z. party-alike j (λ k u v. a k u (omega arith)) z ∷ parties-put r m (suc j) d (le-of-suc-le-suc h) front (ap (partyAt ys) q ∙ e) back z
 
--- ---- a link
+-- ---- four numbers, as a link's tokens and a party's reports are
 four : (u : List ℕ) → length u ≡ 4 → getD u 0 0 ∷ getD u 1 0 ∷ getD u 2 0 ∷ getD u 3 0 ∷ [] ≡ u
 four [] h = absurd (omega (arith, h))
 four (a ∷ []) h = absurd (omega (arith, h))
@@ -198,6 +199,7 @@ four (a ∷ b ∷ c ∷ []) h = absurd (omega (arith, h))
 four (a ∷ b ∷ c ∷ d ∷ []) h = refl
 four (a ∷ b ∷ c ∷ d ∷ e ∷ u) h = absurd (omega (arith, h))
 
+-- ---- a link
 module _ (xs : List ℕ) (i : ℕ) (l : Link) (n : length xs ≡ words) (h : i < 32) (u : length (l .unread) ≡ 4) where
   abbrev ys : List ℕ
   ys = stored xs (linkBase i) (linkWords l)
@@ -228,7 +230,7 @@ pub whole : (x a b : ℕ) → a ≡ x % 4294967296 → b ≡ x / 4294967296 → 
 whole x a b e f = let d = div-add-mod' x 4294967296 in omega (arith, e, f)
 
 module _ (xs : List ℕ) (p : ℕ) (q : Party) (sl sh dl dh : ℕ) (n : length xs ≡ words) (h : p < 16)
-    (s : sl + sh * 4294967296 ≡ q .services) (d : dl + dh * 4294967296 ≡ q .deadline) where
+    (s : sl + sh * 4294967296 ≡ q .services) (d : dl + dh * 4294967296 ≡ q .deadline) (u : length (q .reports) ≡ 4) where
   abbrev ws : List ℕ
   ws = partyWords q sl sh dl dh
 
@@ -237,7 +239,9 @@ module _ (xs : List ℕ) (p : ℕ) (q : Party) (sl sh dl dh : ℕ) (n : length x
 
   party-there : partyAt zs p ≡ q
   unfolding partyFrom
-  party-there = party-made zs p ∙ ap partyFrom (stored-words ws xs (partyBase p) (omega arith)) ∙ (λ z. offering (owning q (q .owned) (d z)) (s z))
+  party-there =
+      let f = four (q .reports) u in
+      party-made zs p ∙ ap partyFrom (stored-words ws xs (partyBase p) (omega arith)) ∙ (λ z. withReports (offering (owning q (q .owned) (d z)) (s z)) (f z))
 
   party-stored : view zs ≡ withParty (view xs) p q
   unfolding wordsFrom headFrom

@@ -32,7 +32,8 @@ pub use Rattle.rules.specs.Transaction.{late, rollbackOnlyTx}
 unfoldable pub use Rattle.rules.specs.Transaction.{servedTx, txOf, ended, expired, isOwner, rollbackOnlyIn, deadlineOf}
 unfoldable pub use Rattle.rules.specs.Transaction.{beginTx, orphaned, endOf, endTx, isOpenOf, canCommit}
 unfoldable pub use Rattle.rules.specs.States.{stateOf, nextOf, inState, entered}
-unfoldable pub use Rattle.rules.specs.Tx.{openOf, closeOf, beginOf, goOn, commitCode, commitOf, rollbackOf, infoOf, commitReturnOf, controlOf, timeoutOf}
+unfoldable pub use Rattle.rules.specs.Tx.{openOf, closeOf, beginOf, goOn, commitOf, rollbackOf, infoOf, commitReturnOf, controlOf, timeoutOf}
+unfoldable pub use Rattle.rules.specs.Votes.{reportOn, reportIs, decides, someCommitted, someRolledBack, voteCode, codeAfter, commitCode, allCanStart, reportOf}
 pub use Rattle.rules.specs.Services.{isService}
 unfoldable pub use Rattle.rules.specs.Services.{inSet, offers, withService, offersNow, advertiseOf, unadvertiseOf}
 pub use Rattle.rules.specs.Requests.{connectFlags}
@@ -46,7 +47,7 @@ unfoldable pub use Rattle.rules.specs.Conversations.{receiveOn, receiveOf, disc
 unfoldable pub use Rattle.rules.specs.Return.{plainOutcome, outcomeOf, unreadAfter, closeOwn, endOwn, rollbackOnlyServed}
 unfoldable pub use Rattle.rules.specs.Return.{servesNone, endingOf, handBack, leave, returnWith, returnOf, diedOut, terminateOf}
 pub use Rattle.rules.specs.Sound.{linkGood}
-unfoldable pub use Rattle.rules.specs.Sound.{linksGood, partyGood, partiesGood, sound}
+unfoldable pub use Rattle.rules.specs.Sound.{reportsGood, linksGood, partyGood, partiesGood, sound}
 unfoldable pub use Rattle.rules.specs.Step.{ruleOf, laterOf, answeredTo, turnedDown, callOf, stepOf}
 unfoldable pub use Rattle.rules.specs.Run.{placesOf, ranOf, answersOf, listOf}
 unfoldable pub use Rattle.rules.specs.Equal.{sameParty, sameLink, allSame, sameRecord, equal}

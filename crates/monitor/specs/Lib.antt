@@ -1,4 +1,5 @@
 pub mod Words
+pub mod Ending
 pub mod View
 pub mod Served
 pub mod File

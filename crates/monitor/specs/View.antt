@@ -17,7 +17,7 @@ use Rattle.rules.specs.declared.Stepped.{Stepped}
 use Rattle.rules.specs.Choice.{pick, same}
 use Rattle.rules.specs.Codes.{tpAccepted}
 use Rattle.rules.specs.Record.{freshLink, blanks, live, withLinks, replaced}
-use Rattle.monitor.specs.Words.{words, readLink, readServices, readDeadline, readParty}
+use Rattle.monitor.specs.Words.{words, readLink, readServices, readDeadline, readReports, readParty}
 use Rattle.monitor.specs.declared.Told.{Told}
 
 -- the words of any record: as many as there are places, and each of 32 bits
@@ -30,7 +30,7 @@ unfoldable pub linkAt : List ℕ → ℕ → Link
 linkAt xs i = readLink xs i
 
 unfoldable pub partyAt : List ℕ → ℕ → Party
-partyAt xs p = readParty xs p (readServices xs p) (readDeadline xs p)
+partyAt xs p = readParty xs p (readServices xs p) (readDeadline xs p) (readReports xs p)
 
 -- n of them, from the place i on
 unfoldable pub linksFrom : ℕ → ℕ → List ℕ → List Link

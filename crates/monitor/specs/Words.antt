@@ -11,7 +11,7 @@ abbrev pub headSize : ℕ
 headSize = 4
 
 abbrev pub partySize : ℕ
-partySize = 10
+partySize = 14
 
 abbrev pub linkSize : ℕ
 linkSize = 19
@@ -23,7 +23,7 @@ partyBase p = headSize + p * partySize
 abbrev pub linkBase : ℕ → ℕ
 linkBase i = partyBase 16 + i * linkSize
 
--- all of them, 772
+-- all of them, 836
 abbrev pub words : ℕ
 words = linkBase 32
 
@@ -56,9 +56,12 @@ readServices xs p = getD xs (partyBase p + 3) 0 + getD xs (partyBase p + 4) 0 * 
 abbrev pub readDeadline : List ℕ → ℕ → ℕ
 readDeadline xs p = getD xs (partyBase p + 6) 0 + getD xs (partyBase p + 7) 0 * 4294967296
 
--- the party p, with its two numbers of 64 bits
-abbrev pub readParty : List ℕ → ℕ → ℕ → ℕ → Party
-readParty xs p services deadline =
+abbrev pub readReports : List ℕ → ℕ → List ℕ
+readReports xs p = getD xs (partyBase p + 10) 0 ∷ getD xs (partyBase p + 11) 0 ∷ getD xs (partyBase p + 12) 0 ∷ getD xs (partyBase p + 13) 0 ∷ []
+
+-- the party p, with its two numbers of 64 bits and its reports
+abbrev pub readParty : List ℕ → ℕ → ℕ → ℕ → List ℕ → Party
+readParty xs p services deadline reports =
     record {
       opened = getD xs (partyBase p) 0;
       control = getD xs (partyBase p + 1) 0;
@@ -68,6 +71,7 @@ readParty xs p services deadline =
       deadline = deadline;
       rollbackonly = getD xs (partyBase p + 8) 0;
       served = getD xs (partyBase p + 9) 0;
+      reports = reports;
     }
 
 -- ---- stored
@@ -79,7 +83,9 @@ linkWords l =
 
 -- of a party, whose services and deadline are given by their halves
 abbrev pub partyWords : Party → ℕ → ℕ → ℕ → ℕ → List ℕ
-partyWords q sl sh dl dh = q .opened ∷ q .control ∷ q .timeout ∷ sl ∷ sh ∷ q .owned ∷ dl ∷ dh ∷ q .rollbackonly ∷ q .served ∷ []
+partyWords q sl sh dl dh =
+    q .opened ∷ q .control ∷ q .timeout ∷ sl ∷ sh ∷ q .owned ∷ dl ∷ dh ∷ q .rollbackonly ∷ q .served
+    ∷ getD (q .reports) 0 0 ∷ getD (q .reports) 1 0 ∷ getD (q .reports) 2 0 ∷ getD (q .reports) 3 0 ∷ []
 
 -- the numbers vs at the places from at + k on
 abbrev pub storedFrom : List ℕ → ℕ → ℕ → List ℕ → List ℕ

@@ -16,6 +16,7 @@ mod states;
 mod steps;
 mod transaction;
 mod tx;
+mod votes;
 mod words;
 
 pub use entry::monitor_equal;

@@ -4,7 +4,7 @@ ghost use mathlib.Core.Bool.{true};
 ghost use Prim.Native.Nat.{_≤_};
 ghost use lib.ListN.{replicate};
 ghost use Rattle.rules.specs.Record.{live};
-ghost use Rattle.rules.specs.Sound.{linkGood, linksGood, choicesGood, partiesGood, sound};
+ghost use Rattle.rules.specs.Sound.{linkGood, linksGood, reportsGood, choicesGood, partiesGood, sound};
 ghost use Rattle.monitor.specs.Served.{FoundAll};
 ghost use Rattle.monitor.specs.View.{view};
 use super::words::Store;
@@ -39,10 +39,19 @@ pub(crate) fn link_good(l: Link) -> bool
                                             & !((l.state == 2) & (l.outcome == 0)))))))))))
 }
 
+// Four numbers, and none above 14.
+pub(crate) fn reports_good(r: [u32; 4]) -> bool
+    ensures { λ g. ⌜ g ≡ reportsGood r ⌝ }
+{
+    (r[0] <= 14) & ((r[1] <= 14) & ((r[2] <= 14) & (r[3] <= 14)))
+}
+
 pub(crate) fn choices_good(q: Party) -> bool
     ensures { λ r. ⌜ r ≡ choicesGood q ⌝ }
 {
-    (q.opened <= 1) & ((q.control <= 1) & (q.rollbackonly <= 1))
+    let r = q.reports;
+    let good = reports_good(r);
+    (q.opened <= 1) & ((q.control <= 1) & ((q.rollbackonly <= 1) & good))
 }
 
 // Are the links good? Then found has for each party the number that it serves, where such a link works for it, and else 0.

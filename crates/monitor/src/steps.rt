@@ -33,6 +33,7 @@ use super::tx::tx_rollback;
 use super::tx::tx_set_commit_return;
 use super::tx::tx_set_transaction_control;
 use super::tx::tx_set_transaction_timeout;
+use super::votes::report;
 use super::words::Store;
 use super::words::WORDS;
 use super::words::clock;
@@ -68,7 +69,8 @@ pub(crate) fn rule(s: &mut [u32; WORDS], p: usize, k: u32, a: u32, b: u32, c: u3
         19 => tpdiscon(&mut *s, p, a),
         20 => tpreturn(&mut *s, p, a, c),
         21 => terminate(&mut *s, p),
-        0 | 22..=4294967295 => coded(codes::UNKNOWN_KIND),
+        22 => report(&mut *s, p, a, b, c),
+        0 | 23..=4294967295 => coded(codes::UNKNOWN_KIND),
     }
 }
 
@@ -126,7 +128,7 @@ pub(crate) fn call_on(s: &mut [u32; WORDS], c: Call) -> Answer
     requires { ⌜ (sound (view (now s)) ≡ true) × (length (now s) ≡ words) ⌝ }
     ensures { λ r. ⌜ (stepped r (view (now (s .exit))) ≡ callOf (view (now (s .entry))) c) × (sound (view (now (s .exit))) ≡ true) × (length (now (s .exit)) ≡ words) ⌝ }
 {
-    let known = (1 <= c.kind) & (c.kind <= 21);
+    let known = (1 <= c.kind) & (c.kind <= 22);
     if !known {
         return turn_down(codes::UNKNOWN_KIND);
     }

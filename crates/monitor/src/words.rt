@@ -3,7 +3,7 @@ ghost use mathlib.Core.Path.{_≡_};
 ghost use Prim.Native.Nat.{_+_, _*_, _/_, _%_, _<_, _≤_};
 ghost use lib.ListN.{length};
 ghost use Rattle.rules.specs.Record.{freshMonitor, party, withClock, withLastTx, withParty, withCount, replaced, added};
-ghost use Rattle.monitor.specs.Words.{words, linkBase, partyBase, readLink, readServices, readDeadline, readParty, linkWords, partyWords, stored};
+ghost use Rattle.monitor.specs.Words.{words, linkBase, partyBase, readLink, readServices, readDeadline, readReports, readParty, linkWords, partyWords, stored};
 ghost use Rattle.monitor.specs.View.{view, linkIn};
 use rules::Link;
 use rules::Party;
@@ -20,7 +20,7 @@ const COUNT: usize = 3;
 // A party: where the first one stands, how many words one has, and the place of each field but the first among them.
 const PARTIES: usize = 4;
 
-const PARTY: usize = 10;
+const PARTY: usize = 14;
 
 const CONTROL: usize = 1;
 
@@ -39,6 +39,14 @@ const DEADLINE_HIGH: usize = 7;
 const ROLLBACK_ONLY: usize = 8;
 
 const SERVED: usize = 9;
+
+const REPORT: usize = 10;
+
+const REPORT_SECOND: usize = 11;
+
+const REPORT_THIRD: usize = 12;
+
+const REPORT_FOURTH: usize = 13;
 
 // A link.
 const LINKS: usize = PARTIES + 16 * PARTY;
@@ -188,9 +196,22 @@ fn read_deadline(s: &[u32; WORDS], p: usize) -> u64
     long(s[at + DEADLINE], s[at + DEADLINE_HIGH])
 }
 
-fn read_party(s: &[u32; WORDS], p: usize, services: u64, deadline: u64) -> Party
+fn read_reports(s: &[u32; WORDS], p: usize) -> [u32; 4]
     requires { ⌜ p < 16 ⌝ }
-    ensures { λ r. ⌜ r ≡ readParty (now (s .entry)) p services deadline ⌝ }
+    ensures { λ r. ⌜ r ≡ readReports (now (s .entry)) p ⌝ }
+{
+    let at = PARTIES + p * PARTY;
+    [
+        s[at + REPORT],
+        s[at + REPORT_SECOND],
+        s[at + REPORT_THIRD],
+        s[at + REPORT_FOURTH],
+    ]
+}
+
+fn read_party(s: &[u32; WORDS], p: usize, services: u64, deadline: u64, reports: [u32; 4]) -> Party
+    requires { ⌜ p < 16 ⌝ }
+    ensures { λ r. ⌜ r ≡ readParty (now (s .entry)) p services deadline reports ⌝ }
 {
     let at = PARTIES + p * PARTY;
     Party {
@@ -202,6 +223,7 @@ fn read_party(s: &[u32; WORDS], p: usize, services: u64, deadline: u64) -> Party
         deadline,
         rollbackonly: s[at + ROLLBACK_ONLY],
         served: s[at + SERVED],
+        reports,
     }
 }
 
@@ -212,7 +234,8 @@ pub(crate) fn party_at(s: &[u32; WORDS], p: usize) -> Party
 {
     let services = read_services(s, p);
     let deadline = read_deadline(s, p);
-    read_party(s, p, services, deadline)
+    let reports = read_reports(s, p);
+    read_party(s, p, services, deadline, reports)
 }
 
 // One of its fields.
@@ -239,6 +262,13 @@ pub(crate) fn served_at(s: &[u32; WORDS], p: usize) -> u32
     s[at + SERVED]
 }
 
+pub(crate) fn reports_at(s: &[u32; WORDS], p: usize) -> [u32; 4]
+    requires { ⌜ p < 16 ⌝ }
+    ensures { λ r. ⌜ r ≡ party (view (now (s .entry))) p .reports ⌝ }
+{
+    read_reports(s, p)
+}
+
 fn store_party(s: &mut [u32; WORDS], p: usize, q: Party, sl: u32, sh: u32, dl: u32, dh: u32)
     requires { ⌜ p < 16 ⌝ }
     ensures { λ _. ⌜ now (s .exit) ≡ stored (now (s .entry)) (partyBase p) (partyWords q sl sh dl dh) ⌝ }
@@ -254,6 +284,10 @@ fn store_party(s: &mut [u32; WORDS], p: usize, q: Party, sl: u32, sh: u32, dl: u
     s[at + DEADLINE_HIGH] = dh;
     s[at + ROLLBACK_ONLY] = q.rollbackonly;
     s[at + SERVED] = q.served;
+    s[at + REPORT] = q.reports[0];
+    s[at + REPORT_SECOND] = q.reports[1];
+    s[at + REPORT_THIRD] = q.reports[2];
+    s[at + REPORT_FOURTH] = q.reports[3];
 }
 
 // The party p becomes q.

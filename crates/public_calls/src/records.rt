@@ -26,7 +26,11 @@ fn party_name(word: usize) {
         6 => text(b" deadline low"),
         7 => text(b" deadline high"),
         8 => text(b" rollbackonly"),
-        _ => text(b" served"),
+        9 => text(b" served"),
+        10 => text(b" report first"),
+        11 => text(b" report second"),
+        12 => text(b" report third"),
+        _ => text(b" report fourth"),
     }
 }
 
@@ -57,14 +61,14 @@ fn link_name(word: usize) {
 fn show_name(at: usize) {
     if at < 4 {
         head_name(at);
-    } else if at < 164 {
+    } else if at < 228 {
         text(b"party ");
-        number(((at - 4) / 10) as u64);
-        party_name((at - 4) % 10);
+        number(((at - 4) / 14) as u64);
+        party_name((at - 4) % 14);
     } else {
         text(b"link at ");
-        number(((at - 164) / 19) as u64);
-        link_name((at - 164) % 19);
+        number(((at - 228) / 19) as u64);
+        link_name((at - 228) % 19);
     }
 }
 
@@ -89,7 +93,7 @@ fn show_copy(base: Store, m: Store) {
 }
 
 fn show_change(base: Store, at: usize, value: u32)
-    requires { ⌜ at < 772 ⌝ }
+    requires { ⌜ at < 836 ⌝ }
 {
     let mut m = base;
     m.words[at] = value;
@@ -99,7 +103,7 @@ fn show_change(base: Store, at: usize, value: u32)
 }
 
 fn show_word(base: Store, at: usize)
-    requires { ⌜ at < 772 ⌝ }
+    requires { ⌜ at < 836 ⌝ }
 {
     let word = base.words[at];
     show_name(at);

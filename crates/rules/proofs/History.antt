@@ -13,6 +13,7 @@ pub mod Tells
 pub mod Theorem
 pub mod Times
 pub mod Turns
+pub mod Votes
 pub mod World
 pub mod WorldGains
 pub mod WorldLosses

@@ -8,8 +8,10 @@ pub mod Parties
 pub mod Sound
 pub mod History
 pub mod ByKind
+pub mod Votes
 pub mod Refusals
 pub mod Lent
 pub mod Kept
 pub mod AnyReply
 pub mod Marked
+pub mod Voted

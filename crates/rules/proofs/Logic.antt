@@ -100,6 +100,10 @@ pub and-false : (b : Bool) → b && false ≡ false
 and-false true = refl
 and-false false = refl
 
+pub not-or : (a b : Bool) → not (a || b) ≡ not a && not b
+not-or true b = refl
+not-or false b = refl
+
 pub and-yes : (b : Bool) → b && true ≡ b
 and-yes true = refl
 and-yes false = refl
@@ -124,6 +128,16 @@ pub or-true : (b : Bool) → b || true ≡ true
 or-true true = refl
 or-true false = refl
 
+pub pick-or : (a b : Bool) → pick a true b ≡ a || b
+unfolding pick
+pick-or true b = refl
+pick-or false b = refl
+
+pub pick-and : (a b : Bool) → pick a b false ≡ a && b
+unfolding pick
+pick-and true b = refl
+pick-and false b = refl
+
 pub or-false : (b : Bool) → b || false ≡ b
 or-false true = refl
 or-false false = refl
@@ -145,6 +159,12 @@ beq-refl true true e = refl
 beq-refl true false e = sym e
 beq-refl false true e = e
 beq-refl false false e = refl
+
+pub beq-true : (a b : Bool) → Bool·beq a b ≡ true → a ≡ b
+beq-true true true e = refl
+beq-true true false e = sym e
+beq-true false true e = e
+beq-true false false e = refl
 
 -- not 0
 abbrev pub Nz : ℕ → Type 0

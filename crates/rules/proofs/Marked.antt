@@ -15,12 +15,13 @@ use Rattle.rules.specs.Lists.{firstOf, anyOf, collect}
 use Rattle.rules.specs.Record.{freshMonitor, blanks, numbered, owns, ownEnd, linkOf, changed, goneOf, removed}
 use Rattle.rules.specs.Transaction.{servedTx, txOf, ended, expired, isOwner, deadlineOf, beginTx, orphaned, endOf, endTx, isOpenOf, canCommit}
 use Rattle.rules.specs.States.{stateOf, nextOf, inState, entered}
-use Rattle.rules.specs.Tx.{openOf, closeOf, beginOf, goOn, commitCode, commitOf, timeoutOf}
+use Rattle.rules.specs.Tx.{openOf, closeOf, beginOf, goOn, commitOf, timeoutOf}
+use Rattle.rules.specs.Votes.{reportIs, decides, someCommitted, someRolledBack, voteCode, codeAfter, commitCode, allCanStart}
 use Rattle.rules.specs.Services.{inSet, offers, countTo, offered, withService, offersNow, advertiseOf}
 use Rattle.rules.specs.Requests.{linkTx, askLink, requestOf, connectOf}
 use Rattle.rules.specs.Replies.{requestEnd, cancelOf}
 use Rattle.rules.specs.Conversations.{originatorEnd, serverEnd, anyEnd, hearsDisconnect, hearsReturn, endSide, isSender, sendOn, sendOf}
-use Rattle.rules.specs.Sound.{linksGood, worksFor, partyGood, partiesGood, sound}
+use Rattle.rules.specs.Sound.{reportsGood, linksGood, worksFor, partyGood, partiesGood, sound}
 use Rattle.rules.specs.Step.{ruleOf, laterOf, answeredTo, turnedDown, callOf}
 use Rattle.rules.specs.Run.{callAt, placesOf, ranOf, answersOf, Listed, listOf}
 use Rattle.rules.specs.History.{sameCode}
@@ -108,11 +109,11 @@ pub record Holds (e : Example) : Type 0 where
   pub leaves : drilled e .monitor .clock ≡ e .clock
 
 -- ---- the test
-right : Example → Bool
+unfoldable pub right : Example → Bool
 right e = sameCode (drilled e .code) (pos 0) && (sameCode (lastCode e) (e .code) && eqb (drilled e .monitor .clock) (e .clock))
 
 -- ---- what it shows
-holds-right : (e : Example) → right e ≡ true → Holds e
+pub holds-right : (e : Example) → right e ≡ true → Holds e
 unfolding right
 holds-right e h =
     let later = and-r (sameCode (drilled e .code) (pos 0)) _ h in
@@ -124,8 +125,9 @@ holds-right e h =
 
 pub marked-holds : (k : ℕ) → k < length marked → Holds (getD marked k freshBegin)
 unfolding every right pick same noBegin firstOf anyOf collect blanks numbered owns ownEnd linkOf changed goneOf removed servedTx txOf ended expired
-    isOwner deadlineOf beginTx orphaned endOf endTx isOpenOf canCommit stateOf nextOf inState entered openOf closeOf beginOf goOn commitCode commitOf
-    timeoutOf inSet offers countTo offered withService offersNow advertiseOf linkTx askLink requestOf connectOf requestEnd cancelOf originatorEnd
-    serverEnd anyEnd hearsDisconnect hearsReturn endSide isSender sendOn sendOf linksGood worksFor partyGood partiesGood sound ruleOf laterOf
-    answeredTo turnedDown callOf callAt placesOf ranOf answersOf listOf
+    isOwner deadlineOf beginTx orphaned endOf endTx isOpenOf canCommit stateOf nextOf inState entered openOf closeOf beginOf goOn reportIs decides
+    someCommitted someRolledBack voteCode codeAfter commitCode allCanStart commitOf timeoutOf inSet offers countTo offered withService offersNow
+    advertiseOf linkTx askLink requestOf connectOf requestEnd cancelOf originatorEnd serverEnd anyEnd hearsDisconnect hearsReturn endSide isSender
+    sendOn sendOf reportsGood linksGood worksFor partyGood partiesGood sound ruleOf laterOf answeredTo turnedDown callOf callAt placesOf ranOf
+    answersOf listOf
 marked-holds k h = holds-right (getD marked k freshBegin) (entry right freshBegin marked refl k h)

@@ -2,7 +2,7 @@
 -- Assumes nothing.
 use mathlib.Core.Path.{_≡_, refl, sym, ap, _∙_}
 use mathlib.Core.List.{List, [], _∷_}
-use mathlib.Core.Bool.{true, false, _&&_}
+use mathlib.Core.Bool.{true, false}
 use Prim.Native.Nat.{ℕ, zero, suc, _<_}
 use native.Mathlib.Omega.{arith}
 use lib.Dec.{eqb, leb, ltb}
@@ -11,11 +11,11 @@ use lib.Seq.{getD-set-same, getD-set-other}
 use borrow.Author.Tests.{eqb-true, eqb-false, ltb-true, ltb-false, ne-eqb}
 use Rattle.rules.specs.Choice.{pick, same}
 use Rattle.rules.specs.Lists.{firstOf, anyOf}
-use Rattle.rules.specs.Record.{freshParty, isRollbackOnly, owns, ownEnd, party, rollbackOnly, withParty}
+use Rattle.rules.specs.Record.{noReports, freshParty, isRollbackOnly, owns, ownEnd, party, rollbackOnly, owningNone, withParty}
 use Rattle.rules.specs.Transaction.{txOf, ownerOf, ownerParty, ended, isOwner, rollbackOnlyIn}
 use Rattle.rules.specs.Conversations.{originatorEnd}
 use Rattle.rules.specs.Return.{rollbackOnlyBy}
-use Rattle.rules.specs.Sound.{choicesGood}
+use Rattle.rules.specs.Sound.{reportsGood, choicesGood}
 use Rattle.rules.specs.declared.Link.{Link}
 use Rattle.rules.specs.declared.Party.{Party}
 use Rattle.rules.specs.declared.Monitor.{Monitor}
@@ -144,9 +144,25 @@ pub marks-grow : (x y : Party) → Marks x y → isRollbackOnly x ≡ true → i
 marks-grow x y (plain e) r = rw e r
 marks-grow x y (marked e) r = rw e
 
--- with either mark the choices are as good
-pub mark-good : (x : Party) → choicesGood x ≡ true → leb (x .opened) 1 && (leb (x .control) 1 && true) ≡ true
-mark-good x g = let h = and-r (leb (x .opened) 1) _ g in rw (and-l (leb (x .opened) 1) _ g, and-l (leb (x .control) 1) _ h)
+pub reports-good : (x : Party) → choicesGood x ≡ true → reportsGood (x .reports) ≡ true
+reports-good x g = and-r (leb (x .rollbackonly) 1) _ (and-r (leb (x .control) 1) _ (and-r (leb (x .opened) 1) _ g))
+
+-- with the mark the choices are as good, and without a transaction
+pub mark-good : (x : Party) → choicesGood x ≡ true → choicesGood (rollbackOnly x) ≡ true
+mark-good x g = let h = and-r (leb (x .opened) 1) _ g in
+    rw (and-l (leb (x .opened) 1) _ g, and-l (leb (x .control) 1) _ h) (reports-good x g)
+
+pub none-good : (x : Party) → choicesGood x ≡ true → choicesGood (owningNone x) ≡ true
+unfolding reportsGood anyOf pick
+none-good x g = let h = and-r (leb (x .opened) 1) _ g in rw (and-l (leb (x .opened) 1) _ g, and-l (leb (x .control) 1) _ h)
+
+pub fresh-choices : choicesGood freshParty ≡ true
+unfolding reportsGood anyOf pick
+fresh-choices = refl
+
+-- where a party without a transaction has no reports, y has none
+abbrev pub Cleared : Party → Party → Type 0
+Cleared x y = (x .owned ≡ 0 → x .reports ≡ noReports) → y .reports ≡ noReports
 
 pub marks-good : (x y : Party) → Marks x y → choicesGood x ≡ true → choicesGood y ≡ true
 marks-good x y (plain e) g = rw e g

@@ -2,6 +2,7 @@
 -- Assumes nothing.
 use mathlib.Core.Path.{_≡_, refl, sym, ap, _∙_}
 use mathlib.Core.Bool.{Bool, true, false, not, _&&_, _||_}
+use mathlib.Core.List.{List}
 use Prim.Native.Nat.{ℕ}
 use native.Mathlib.Omega.{arith}
 use borrow.Author.Tests.{leb-true, le-leb}
@@ -10,10 +11,11 @@ use lib.IntN.{ℤ, pos}
 use Rattle.rules.specs.Choice.{pick}
 use Rattle.rules.specs.Codes.{txOk, txProtocolError, txError, txEinval, noBegin, unsound, unknownKind, unknownParty}
 use Rattle.rules.specs.Codes.{badArgument, notAllowedNow, noSuchEnd, notOffered, noRoomLeft, inTransaction}
-use Rattle.rules.specs.Codes.{timedOut, nothingWaiting, noReplyYet, nothingUnread, unreadFull}
+use Rattle.rules.specs.Codes.{timedOut, nothingWaiting, noReplyYet, nothingUnread, unreadFull, badReport}
 use Rattle.rules.specs.Record.{linkOf, ruled, ask}
 use Rattle.rules.specs.Transaction.{servedTx, txOf}
-use Rattle.rules.specs.Tx.{openOf, closeOf, beginOf, goOn, commitCode, commitOf, rollbackOf, infoOf, commitReturnOf, controlOf, timeoutOf}
+use Rattle.rules.specs.Tx.{openOf, closeOf, beginOf, goOn, commitOf, rollbackOf, infoOf, commitReturnOf, controlOf, timeoutOf}
+use Rattle.rules.specs.Votes.{voteCode, commitCode, reportOf}
 use Rattle.rules.specs.Services.{offersNow, advertiseOf, unadvertiseOf}
 use Rattle.rules.specs.Requests.{askLink, requestOf, connectOf, dispatched, dispatchOf}
 use Rattle.rules.specs.Replies.{outcomeCode, fetched, fetchOne, fetchAny, fetchOf, cancelOf}
@@ -25,6 +27,7 @@ use Rattle.rules.specs.declared.Call.{Call}
 use Rattle.rules.specs.declared.Monitor.{Monitor}
 use Rattle.rules.specs.declared.Ruled.{Ruled}
 use Rattle.rules.specs.declared.Stepped.{Stepped}
+use Rattle.rules.proofs.Votes.{everyCode, commit-code-test}
 use Rattle.rules.proofs.Logic.{byTest, not-both, pick-true, pick-false, and-l, and-r, not-true, or-l, or-r, or-true}
 use Rattle.rules.proofs.ByKind.{OfEachKind, by-kind}
 
@@ -46,25 +49,21 @@ no code h = refuses h refl
 
 -- ---- the kinds
 -- the codes of a commit that was carried out, with and without a new transaction
-commit-carried : (b : Bool) → isCarried (commitCode b) ≡ true
-unfolding isOutcome isRefusal isEarly commitCode
-commit-carried b = byTest (λ z. isCarried z ≡ true) (λ _. refl) (λ _. refl)
+commit-carried : (can : Bool) (rs : List ℕ) → isCarried (commitCode can rs) ≡ true
+unfolding isOutcome isRefusal isEarly everyCode voteCode pick
+commit-carried can rs = commit-code-test (λ z. isCarried z) refl can rs
 
-no-begin-carried : (b : Bool) → isCarried (noBegin (commitCode b)) ≡ true
-unfolding isOutcome isRefusal isEarly commitCode noBegin
-no-begin-carried b = byTest (λ z. isCarried (noBegin z) ≡ true) (λ _. refl) (λ _. refl)
+no-begin-carried : (can : Bool) (rs : List ℕ) → isCarried (noBegin (commitCode can rs)) ≡ true
+unfolding isOutcome isRefusal isEarly everyCode voteCode pick noBegin
+no-begin-carried can rs = commit-code-test (λ z. isCarried (noBegin z)) refl can rs
 
 reply-carried : (o : ℕ) → isCarried (outcomeCode o) ≡ true
 unfolding isOutcome isRefusal isEarly outcomeCode
 reply-carried o = byTest (λ z. isCarried z ≡ true) (λ _. refl) (λ _. byTest (λ z. isCarried z ≡ true) (λ _. refl) (λ _. refl))
 
-go-on : (m m₀ : Monitor) (p next : ℕ) (b : Bool) → Decided m (goOn m₀ p next (commitCode b))
+go-on : (m m₀ : Monitor) (p next : ℕ) (start : Bool) (code : ℤ) → isCarried code ≡ true → isCarried (noBegin code) ≡ true → Decided m (goOn m₀ p next start code)
 unfolding goOn
-go-on m m₀ p next b = asks (λ _. asks (λ _. does (commit-carried b)) (λ _. does (no-begin-carried b))) (λ _. does (commit-carried b))
-
-roll-on : (m m₀ : Monitor) (p next : ℕ) → Decided m (goOn m₀ p next txOk)
-unfolding commitCode pick
-roll-on m m₀ p next = go-on m m₀ p next true
+go-on m m₀ p next start code y n = asks (λ _. asks (λ _. does y) (λ _. does n)) (λ _. does y)
 
 module _ (m : Monitor) (p : ℕ) where
   open-decided : Decided m (openOf m p)
@@ -81,11 +80,11 @@ module _ (m : Monitor) (p : ℕ) where
 
   commit-decided : Decided m (commitOf m p)
   unfolding commitOf isOutcome isRefusal isEarly
-  commit-decided = asks (λ _. asks (λ _. go-on m _ p _ _) (λ _. no txProtocolError refl)) (λ _. no txProtocolError refl)
+  commit-decided = asks (λ _. asks (λ _. go-on m _ p _ _ _ (commit-carried _ _) (no-begin-carried _ _)) (λ _. no txProtocolError refl)) (λ _. no txProtocolError refl)
 
   rollback-decided : Decided m (rollbackOf m p)
-  unfolding rollbackOf isOutcome isRefusal isEarly
-  rollback-decided = asks (λ _. asks (λ _. roll-on m _ p _) (λ _. no txProtocolError refl)) (λ _. no txProtocolError refl)
+  unfolding rollbackOf isOutcome isRefusal isEarly noBegin
+  rollback-decided = asks (λ _. asks (λ _. go-on m _ p _ _ txOk refl refl) (λ _. no txProtocolError refl)) (λ _. no txProtocolError refl)
 
   info-decided : Decided m (infoOf m p)
   unfolding infoOf isOutcome isRefusal isEarly
@@ -173,6 +172,10 @@ module _ (m : Monitor) (p : ℕ) where
           (λ _. asks (λ _. asks (λ _. does refl)
           (λ _. no unreadFull refl)) (λ _. no notAllowedNow refl)))) (λ _. no timedOut refl)) (λ _. no badArgument refl)) (λ _. no noSuchEnd refl)
 
+      report-decided : Decided m (reportOf m p a b c)
+      unfolding reportOf isOutcome isRefusal isEarly
+      report-decided = asks (λ _. asks (λ _. does refl) (λ _. no badReport refl)) (λ _. no notAllowedNow refl)
+
       each-decided : (k : ℕ) → OfEachKind (Decided m) m p k a b c
       each-decided k = record {
         onOpen = λ _. open-decided;
@@ -196,6 +199,7 @@ module _ (m : Monitor) (p : ℕ) where
         onDisconnect = λ _. disconnect-decided;
         onReturn = λ _. return-decided c;
         onTerminate = λ _. terminate-decided;
+        onReport = λ _. report-decided;
       }
 
 -- ---- past question 21
@@ -278,7 +282,7 @@ call-refusal-law m c = call-lawful m c .refused
 pub code-known : (m : Monitor) (c : Call) → isRefusal (stepOf m c .answer .code) || isOutcome (stepOf m c .answer .code) ≡ true
 code-known m c = step-lawful m c .known
 
--- document 02's numbers for refusals, of which calls answer none yet
+-- document 02's numbers for refusals
 pub later-refusals : (n : ℕ) → leb 33 n ≡ true → leb n 39 ≡ true → isRefusal (pos n) ≡ true
 unfolding isRefusal
 later-refusals n h k =

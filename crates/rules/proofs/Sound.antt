@@ -10,7 +10,8 @@ use lib.ListN.{length, getD}
 use borrow.Author.Tests.{ltb-true, leb-true, lt-ltb, le-leb}
 use Rattle.rules.specs.Choice.{pick, same}
 use Rattle.rules.specs.Record.{freshParty, freshLink, freshMonitor, isWorking, isReturned, isEnding, party, live, placeOf, linkOf, working, withClock}
-use Rattle.rules.specs.Sound.{linkGood, choicesGood, linksGood, worksFor, partyGood, partiesGood, sound}
+use Rattle.rules.specs.Lists.{anyOf}
+use Rattle.rules.specs.Sound.{linkGood, reportsGood, choicesGood, linksGood, worksFor, partyGood, partiesGood, sound}
 use Rattle.rules.specs.declared.Call.{Call}
 use Rattle.rules.specs.declared.Link.{Link}
 use Rattle.rules.specs.declared.Party.{Party}
@@ -18,6 +19,7 @@ use Rattle.rules.specs.declared.Monitor.{Monitor}
 use Rattle.rules.specs.declared.Ruled.{Ruled}
 use Rattle.rules.proofs.Logic.{Nz, pick-true, pick-false, test, byTest, not-both, same-refl, same-true, same-ne, and-l, and-r, and-true, byNumber}
 use Rattle.rules.proofs.Fine.{noLink, look, Between, Shape, Fine}
+use Rattle.rules.proofs.Parties.{fresh-choices}
 use Rattle.rules.proofs.Looks.{look-below, look-next, linkOf-look, look-linkOf}
 use Rattle.rules.proofs.Changes.{place-first}
 use Rattle.rules.proofs.History.Moves.{Like, Left, alike, gone, shut, back, Idle, Ends, Begins, Makes, Takes, Move, quiet, sends, grants}
@@ -87,7 +89,7 @@ module _ (m : Monitor) where
 
   parties-good : (p i k : ℕ) (qs : List Party) → k ≡ p + i → partiesGood m p qs ≡ true → partyGood m k (getD qs i freshParty) ≡ true
   unfolding partiesGood
-  parties-good p i k [] e h = good-party k freshParty refl (λ n. not-both (same-refl 0) n)
+  parties-good p i k [] e h = good-party k freshParty fresh-choices (λ n. not-both (same-refl 0) n)
   parties-good p zero k (q ∷ qs) e h = subst (λ (x : ℕ). partyGood m x q ≡ true) (omega arith) (both _ _ h .0)
   parties-good p (suc i) k (q ∷ qs) e h = parties-good (p + 1) i k qs (omega arith) (both _ _ h .1)
 
@@ -161,7 +163,7 @@ fine-sound m fi =
     (and-true _ _ (fi .works i n) (rw (fi .mine i n) (same-refl i))))))))))
 
 pub fresh-fine : Fine freshMonitor
-unfolding sound linksGood partiesGood partyGood pick
+unfolding sound linksGood partiesGood partyGood reportsGood anyOf pick
 fresh-fine = sound-fine freshMonitor (record { parties16 = refl; links32 = refl }) refl
 
 pub clock-fine : (m : Monitor) (t : ℕ) → Fine m → Fine (withClock m t)

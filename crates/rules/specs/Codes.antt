@@ -20,6 +20,18 @@ txInfoInside = pos 1
 abbrev pub txRollback : ℤ
 txRollback = negsuc 1
 
+-- TX_MIXED: partly committed and partly rolled back
+abbrev pub txMixed : ℤ
+txMixed = negsuc 2
+
+-- TX_HAZARD: it may be so
+abbrev pub txHazard : ℤ
+txHazard = negsuc 3
+
+-- TX_COMMITTED: heuristically committed
+abbrev pub txCommitted : ℤ
+txCommitted = negsuc 8
+
 abbrev pub txProtocolError : ℤ
 txProtocolError = negsuc 4
 
@@ -105,6 +117,10 @@ unreadFull = pos 32
 -- ---- refusal of a reader of OSI TP's primitives
 abbrev pub noSuchSequence : ℤ
 noSuchSequence = pos 33
+
+-- ---- refusal of a resource manager's report: no such manager, or an unknown report of it
+abbrev pub badReport : ℤ
+badReport = pos 34
 
 -- ---- accepted by the XATMI kinds
 abbrev pub tpAccepted : ℤ

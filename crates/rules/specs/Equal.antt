@@ -9,10 +9,19 @@ use Rattle.rules.specs.declared.Party.{Party}
 use Rattle.rules.specs.declared.Link.{Link}
 use Rattle.rules.specs.declared.Monitor.{Monitor}
 
+module _ {A : Type 0} where
+  -- as long as each other, and alike place by place
+  unfoldable pub allSame : (A → A → Bool) → List A → List A → Bool
+  allSame f [] [] = true
+  allSame f [] (y ∷ ys) = false
+  allSame f (x ∷ xs) [] = false
+  allSame f (x ∷ xs) (y ∷ ys) = pick (f x y) (allSame f xs ys) false
+
 unfoldable pub sameParty : Party → Party → Bool
 sameParty x y =
     same (x .opened) (y .opened) && (same (x .control) (y .control) && (same (x .timeout) (y .timeout) && (same (x .services) (y .services)
-    && (same (x .owned) (y .owned) && (same (x .deadline) (y .deadline) && (same (x .rollbackonly) (y .rollbackonly) && same (x .served) (y .served)))))))
+    && (same (x .owned) (y .owned) && (same (x .deadline) (y .deadline) && (same (x .rollbackonly) (y .rollbackonly) && (same (x .served) (y .served)
+    && allSame same (x .reports) (y .reports))))))))
 
 -- all fields alike, unread compared by how many
 unfoldable pub sameLink : Link → Link → Bool
@@ -21,14 +30,6 @@ sameLink x y =
     && (same (x .service) (y .service) && (same (x .tx) (y .tx) && (same (x .state) (y .state) && (same (x .server) (y .server)
     && (same (x .first) (y .first) && (same (x .outcome) (y .outcome) && (same (x .ending) (y .ending) && (same (x .sender) (y .sender)
     && (same (x .granting) (y .granting) && (same (x .disconnected) (y .disconnected) && same (x .filled) (y .filled))))))))))))))
-
-module _ {A : Type 0} where
-  -- as long as each other, and alike place by place
-  unfoldable pub allSame : (A → A → Bool) → List A → List A → Bool
-  allSame f [] [] = true
-  allSame f [] (y ∷ ys) = false
-  allSame f (x ∷ xs) [] = false
-  allSame f (x ∷ xs) (y ∷ ys) = pick (f x y) (allSame f xs ys) false
 
 unfoldable pub sameRecord : Monitor → Monitor → Bool
 sameRecord x y =

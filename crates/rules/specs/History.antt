@@ -194,11 +194,29 @@ finishes d o e =
 unfoldable pub unfinished : List Event → ℕ → Bool
 unfinished h t = some (λ e. makes t e && not (some (finishes (e .answer .value) (e .call .party)) h)) h
 
--- "no failed service end, no disconnect, no passed deadline and no unfinished link of it": the reasons against the commit
--- e of t, after h
+-- "standing is each manager's last accepted 22 with an answer ending in T": is it such a 22 of manager a's
+unfoldable pub reportsOn : ℕ → ℕ → Event → Bool
+reportsOn t a e = ofKind 22 e && (accepted e && (endsIn t e && eqb (e .call .a) a))
+
+-- "veto, rolled back, mixed or hazard"
+unfoldable pub opposes : Event → Bool
+opposes e = eqb (e .call .b) 2 || (eqb (e .call .b) 4 || (eqb (e .call .b) 5 || eqb (e .call .b) 6))
+
+-- is manager a's standing report one of these
+unfoldable pub opposed : List Event → ℕ → ℕ → Bool
+opposed [] t a = false
+opposed (e ∷ h) t a = cond (reportsOn t a e) (opposes e) (opposed h t a)
+
+-- "Demand 3's committed now also needs no standing report of veto, rolled back, mixed or hazard": the managers are 0 to 3
+unfoldable pub standsAgainst : List Event → ℕ → Bool
+standsAgainst h t = opposed h t 0 || (opposed h t 1 || (opposed h t 2 || opposed h t 3))
+
+-- "no failed service end, no disconnect, no passed deadline and no unfinished link of it", and no report that stands
+-- against it: the reasons against the commit e of t, after h
 unfoldable pub reasonAgainst : List Event → Event → ℕ → Bool
 reasonAgainst h e t =
-    failedEnd (isLinkOf h t) h || (disconnect (isLinkOf h t) h || (deadlinePassed (upToStart t h) (e ∷ h) || unfinished h t))
+    failedEnd (isLinkOf h t) h
+    || (disconnect (isLinkOf h t) h || (deadlinePassed (upToStart t h) (e ∷ h) || (unfinished h t || standsAgainst h t)))
 
 -- "At work in T: serves a link of T at the commit. Other parties are all but T's owner.":
 -- does a caller but p serve a link of t

@@ -3,6 +3,8 @@ pub mod Lists
 pub mod Codes
 pub mod Record
 pub mod Transaction
+pub mod Votes
+pub mod Standing
 pub mod States
 pub mod Tx
 pub mod Services

@@ -14,9 +14,13 @@ use Rattle.rules.specs.declared.Party.{Party}
 use Rattle.rules.specs.declared.Link.{Link}
 use Rattle.rules.specs.declared.Monitor.{Monitor}
 
+-- no resource manager has reported
+abbrev pub noReports : List ℕ
+noReports = replicate 4 0
+
 -- ---- "A fresh monitor and a fresh party have all zero, empty and not opened."
 abbrev pub freshParty : Party
-freshParty = record { opened = 0; control = 0; timeout = 0; services = 0; owned = 0; deadline = 0; rollbackonly = 0; served = 0 }
+freshParty = record { opened = 0; control = 0; timeout = 0; services = 0; owned = 0; deadline = 0; rollbackonly = 0; served = 0; reports = noReports }
 
 abbrev pub freshLink : Link
 freshLink = record {
@@ -116,7 +120,7 @@ unfoldable pub linkOf : Monitor → ℕ → Link
 linkOf m n = getD (live m) (placeOf m n) freshLink
 
 -- ---- what all changes are made of: each writes the fields of one topic out, and the others stay
--- a party: what it has set; the transaction and the link that it works for
+-- a party: what it has set; the transaction and the link that it works for; what the resource managers reported
 abbrev pub withSettings : Party → (opened control timeout services : ℕ) → Party
 withSettings q opened control timeout services = record {
   opened = opened;
@@ -127,6 +131,7 @@ withSettings q opened control timeout services = record {
   deadline = q .deadline;
   rollbackonly = q .rollbackonly;
   served = q .served;
+  reports = q .reports;
 }
 
 abbrev pub withWork : Party → (owned deadline rollbackonly served : ℕ) → Party
@@ -139,6 +144,20 @@ withWork q owned deadline rollbackonly served = record {
   deadline = deadline;
   rollbackonly = rollbackonly;
   served = served;
+  reports = q .reports;
+}
+
+abbrev pub withReports : Party → List ℕ → Party
+withReports q reports = record {
+  opened = q .opened;
+  control = q .control;
+  timeout = q .timeout;
+  services = q .services;
+  owned = q .owned;
+  deadline = q .deadline;
+  rollbackonly = q .rollbackonly;
+  served = q .served;
+  reports = reports;
 }
 
 -- a link: what it is made with; how far its service is; its ends; who may send, and what is unread
@@ -241,13 +260,17 @@ offering q s = withSettings q (q .opened) (q .control) (q .timeout) s
 abbrev pub owning : Party → ℕ → ℕ → Party
 owning q t d = withWork q t d (q .rollbackonly) (q .served)
 
--- one ends: "the party's owned transaction, deadline and doomed mark become 0"
+-- one ends: "the party's owned transaction, deadline and doomed mark become 0"; of its reports, "all go when T ends"
 abbrev pub owningNone : Party → Party
-owningNone q = withWork q 0 0 0 (q .served)
+owningNone q = withReports (withWork q 0 0 0 (q .served)) noReports
 
 -- its transaction can only be rolled back (document 01: doomed)
 abbrev pub rollbackOnly : Party → Party
 rollbackOnly q = withWork q (q .owned) (q .deadline) 1 (q .served)
+
+-- "a later report replaces an earlier one": manager a's report becomes r
+abbrev pub reporting : Party → ℕ → ℕ → Party
+reporting q a r = withReports q (set (q .reports) a r)
 
 -- it serves the link d
 abbrev pub serving : Party → ℕ → Party

@@ -21,10 +21,10 @@ unfoldable pub isEarly : ℤ → Bool
 isEarly (pos n) = eqb 19 n || (eqb 20 n || eqb 21 n)
 isEarly (negsuc n) = false
 
--- the codes of a call that was carried out: 0, 1, 29, 30, 31, −2, −100 and −102
+-- the codes of a call that was carried out: 0, 1, 29, 30, 31, −2, −3, −4, −9, −100, −102, −103, −104 and −109
 unfoldable pub isOutcome : ℤ → Bool
 isOutcome (pos n) = leb n 1 || (leb 29 n && leb n 31)
-isOutcome (negsuc n) = eqb n 1 || (eqb n 99 || eqb n 101)
+isOutcome (negsuc n) = eqb n 1 || (eqb n 2 || (eqb n 3 || (eqb n 8 || (eqb n 99 || (eqb n 101 || (eqb n 102 || (eqb n 103 || eqb n 108)))))))
 
 -- The call c on the record m was refused with s: beside its number and the caller's T all is 0, and the record is as it was
 -- but for the clock. At 19, 20 and 21 "the last field is 0 and the record is unchanged".

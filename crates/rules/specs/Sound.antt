@@ -4,7 +4,9 @@ use Prim.Native.Nat.{ℕ, _+_}
 use mathlib.Core.List.{List, [], _∷_}
 use mathlib.Core.Bool.{Bool, true, false, not, _&&_, _||_}
 use lib.Dec.{eqb, ltb, leb}
+use lib.ListN.{length}
 use Rattle.rules.specs.Choice.{pick, same}
+use Rattle.rules.specs.Lists.{anyOf}
 use Rattle.rules.specs.Record.{isWorking, isReturned, isEnding, live, linkOf}
 use Rattle.rules.specs.declared.Party.{Party}
 use Rattle.rules.specs.declared.Link.{Link}
@@ -27,8 +29,12 @@ linksGood last prev (l ∷ ls) = pick (ltb prev (l .number) && linkGood l) (link
 unfoldable pub worksFor : ℕ → Link → Bool
 worksFor p l = isWorking l && same (l .server) p
 
+-- "Each party's record keeps .. one report or none a manager", "up to 4": 0, 1 + b or 8 + b, with b 0 to 6
+unfoldable pub reportsGood : List ℕ → Bool
+reportsGood rs = eqb (length rs) 4 && not (anyOf (ltb 14) rs)
+
 abbrev pub choicesGood : Party → Bool
-choicesGood q = leb (q .opened) 1 && (leb (q .control) 1 && leb (q .rollbackonly) 1)
+choicesGood q = leb (q .opened) 1 && (leb (q .control) 1 && (leb (q .rollbackonly) 1 && reportsGood (q .reports)))
 
 -- "each served number names a working link with that party as server"
 unfoldable pub partyGood : Monitor → ℕ → Party → Bool

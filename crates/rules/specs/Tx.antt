@@ -1,13 +1,14 @@
 -- Kinds 1 to 9: the TX calls.
 -- Assumes nothing.
 use Prim.Native.Nat.{ℕ, _+_}
-use mathlib.Core.Bool.{Bool, not}
+use mathlib.Core.Bool.{Bool, not, _&&_}
 use lib.Dec.{eqb, leb}
 use lib.IntN.{ℤ}
 use Rattle.rules.specs.Choice.{pick}
-use Rattle.rules.specs.Codes.{txOk, txNotSupported, txInfoOutside, txInfoInside, txRollback, txProtocolError, txError, txEinval, noBegin}
+use Rattle.rules.specs.Codes.{txOk, txNotSupported, txInfoOutside, txInfoInside, txProtocolError, txError, txEinval, noBegin}
 use Rattle.rules.specs.Record.{party, withParty, ruled, ask, withTimeout}
 use Rattle.rules.specs.Transaction.{txOf, isOwner, txLeft, beginTx, endTx, canCommit}
+use Rattle.rules.specs.Votes.{allCanStart, commitCode}
 use Rattle.rules.specs.States.{stateOf, isBlank, nextOf, entered}
 use Rattle.rules.specs.declared.Ruled.{Ruled}
 use Rattle.rules.specs.declared.Monitor.{Monitor}
@@ -35,32 +36,30 @@ beginOf m p =
     (ruled (entered (beginTx m p) p (nextState m p 3)) txOk))
 
 -- "Unchained: S1. Chained: a new transaction begins; if numbers are spent, S2 and 100 is subtracted from the code":
--- party p goes on to the next state after its transaction ended with the code
-unfoldable pub goOn : Monitor → ℕ → ℕ → ℤ → Ruled
-goOn m p next code =
+-- party p goes on to the next state after its transaction ended with the code.
+-- "A manager whose standing report says that it can't start subtracts 100 (once, if numbers are spent too) when chained, and
+-- the party goes to S2.": whether the managers can start
+unfoldable pub goOn : Monitor → ℕ → ℕ → Bool → ℤ → Ruled
+goOn m p next start code =
     pick (eqb next 4)
-    (pick (txLeft m)
+    (pick (start && txLeft m)
     (ruled (entered (beginTx m p) p 4) code)
     (ruled (entered m p 2) (noBegin code)))
     (ruled (entered m p next) code)
-
--- "Commit gives 0 if .. else −2"
-unfoldable pub commitCode : Bool → ℤ
-commitCode can = pick can txOk txRollback
 
 -- 4 commit: S3, S4, and only the owner, else −5
 unfoldable pub commitOf : Monitor → ℕ → Ruled
 commitOf m p =
     askState m p 4
     (ask m (isOwner m p) txProtocolError
-    (goOn (endTx m p) p (nextState m p 4) (commitCode (canCommit m p))))
+    (goOn (endTx m p) p (nextState m p 4) (allCanStart (party m p .reports)) (commitCode (canCommit m p) (party m p .reports))))
 
--- 5 rollback: S3, S4, and only the owner, else −5
+-- 5 rollback: S3, S4, and only the owner, else −5. "Rollback still gives 0, or −100 so."
 unfoldable pub rollbackOf : Monitor → ℕ → Ruled
 rollbackOf m p =
     askState m p 5
     (ask m (isOwner m p) txProtocolError
-    (goOn (endTx m p) p (nextState m p 5) txOk))
+    (goOn (endTx m p) p (nextState m p 5) (allCanStart (party m p .reports)) txOk))
 
 -- 6 info: S1 to S4, code 1 in T, else 0
 unfoldable pub infoOf : Monitor → ℕ → Ruled

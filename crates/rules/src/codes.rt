@@ -11,6 +11,12 @@ pub const TX_INFO_OUTSIDE: i64 = 0;
 pub const TX_INFO_INSIDE: i64 = 1;
 
 pub const TX_ROLLBACK: i64 = -2;
+// partly committed and partly rolled back; perhaps so; heuristically committed
+pub const TX_MIXED: i64 = -3;
+
+pub const TX_HAZARD: i64 = -4;
+
+pub const TX_COMMITTED: i64 = -9;
 
 pub const TX_PROTOCOL_ERROR: i64 = -5;
 
@@ -66,6 +72,9 @@ pub const UNREAD_FULL: i64 = 32;
 
 // ---- refusal of a reader of OSI TP's primitives
 pub const NO_SUCH_SEQUENCE: i64 = 33;
+
+// ---- refusal of a resource manager's report
+pub const BAD_REPORT: i64 = 34;
 
 // ---- accepted by the XATMI kinds
 pub const TP_ACCEPTED: i64 = 0;

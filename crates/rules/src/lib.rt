@@ -22,6 +22,9 @@ pub struct Party {
     pub rollbackonly: u32,
     // the number of the link that it serves, 0 none
     pub served: u32,
+    // what each resource manager reported of the owned transaction: 0 none, 1 + b, or 8 + b where it can't start a new one;
+    // b is 0 prepared, 1 read-only, 2 veto, 3 committed, 4 rolled back, 5 mixed, 6 hazard
+    pub reports: [u32; 4],
 }
 
 // A request or a conversation between its originator and the party that serves it.
@@ -123,6 +126,7 @@ impl Party {
             deadline: 0,
             rollbackonly: 0,
             served: 0,
+            reports: [0; 4],
         }
     }
 }

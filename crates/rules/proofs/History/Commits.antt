@@ -10,10 +10,10 @@ use Rattle.rules.specs.Choice.{same}
 use Rattle.rules.specs.Record.{isAttached, isRollbackOnly}
 use Rattle.rules.specs.History.{Event, some, ofKind, by, withValue, past21, upToStart, shownOwner, latestTx, txAt}
 use Rattle.rules.specs.History.{isOwnersCommit, committed, makes, isLinkOf, failedEnd, disconnect, deadlinePassed}
-use Rattle.rules.specs.History.{finishes, unfinished, reasonAgainst, othersAtWork, commitRule, aloneRule}
+use Rattle.rules.specs.History.{finishes, unfinished, standsAgainst, reasonAgainst, othersAtWork, commitRule, aloneRule}
 use Rattle.rules.specs.declared.Link.{Link}
 use Rattle.rules.specs.declared.Party.{Party}
-use Rattle.rules.proofs.Logic.{pick-true, pick-false, test, not-both, same-refl, same-true, and-l, and-r, and-true, or-true, not-true, beq-refl, Nz}
+use Rattle.rules.proofs.Logic.{pick-true, pick-false, test, not-both, same-refl, same-true, and-l, and-r, and-true, or-true, not-true, beq-refl, Nz, not-or}
 use Rattle.rules.proofs.Fine.{txP}
 use Rattle.rules.proofs.History.Shows.{showsOf}
 use Rattle.rules.proofs.History.World.{World}
@@ -30,11 +30,13 @@ some-find f (e ∷ h) y = test (f e)
 pub record Answered (P : ℕ → Party) (L : ℕ → Link) (h : List Event) (e : Event) : Type 0 where
   pub late : Bool
   pub openEnd : Bool
+  pub against : Bool
   pub lateIs : late ≡ deadlinePassed (upToStart (txAt h e) h) (e ∷ h)
+  pub againstIs : against ≡ standsAgainst h (txAt h e)
   -- a link of it has its originator's end open
   pub opens : openEnd ≡ true → (d : ℕ) × (isAttached (L d) ≡ true) × (L d .tx ≡ txAt h e)
   pub opened : (d : ℕ) → isAttached (L d) ≡ true → L d .tx ≡ txAt h e → openEnd ≡ true
-  pub code : committed e ≡ not (isRollbackOnly (P (e .call .party))) && (not late && not openEnd)
+  pub code : committed e ≡ (not (isRollbackOnly (P (e .call .party))) && (not late && not openEnd)) && not against
 
 module _ {n m : ℕ} {P : ℕ → Party} {L : ℕ → Link} (h : List Event) (e : Event) (w : World n m P L (showsOf h)) where
   -- the caller of a commit by T's owner owns T
@@ -83,9 +85,9 @@ module _ {n m : ℕ} {P : ℕ → Party} {L : ℕ → Link} (h : List Event) (e 
 
     exactly : committed e ≡ not (reasonAgainst h e (txAt h e))
     unfolding reasonAgainst
-    exactly = a .code ∙ rw (marked, a .lateIs)
+    exactly = a .code ∙ rw (marked, a .lateIs, a .againstIs)
         (law (failedEnd (isLinkOf h (txAt h e)) h) (disconnect (isLinkOf h (txAt h e)) h)
-        (deadlinePassed (upToStart (txAt h e) h) (e ∷ h)) (a .openEnd) (unfinished h (txAt h e))
+        (deadlinePassed (upToStart (txAt h e) h) (e ∷ h)) (a .openEnd) (unfinished h (txAt h e)) (standsAgainst h (txAt h e))
         (λ un. same-tests _ _ open-unfinished (unfinished-open (marked ∙ un))))
       where
         same-tests : (x y : Bool) → (x ≡ true → y ≡ true) → (y ≡ true → x ≡ true) → x ≡ y
@@ -93,11 +95,11 @@ module _ {n m : ℕ} {P : ℕ → Party} {L : ℕ → Link} (h : List Event) (e 
         same-tests false true f g = g refl
         same-tests false false f g = refl
 
-        law : (f d l o u : Bool) → (f || d ≡ false → o ≡ u) → not (f || d) && (not l && not o) ≡ not (f || (d || (l || u)))
-        law true d l o u k = refl
-        law false true l o u k = refl
-        law false false true o u k = refl
-        law false false false o u k = rw (k refl)
+        law : (f d l o u s : Bool) → (f || d ≡ false → o ≡ u) → (not (f || d) && (not l && not o)) && not s ≡ not (f || (d || (l || (u || s))))
+        law true d l o u s k = refl
+        law false true l o u s k = refl
+        law false false true o u s k = refl
+        law false false false o u s k = rw (k refl) (sym (not-or u s))
 
     nobody : committed e ≡ true → othersAtWork h (txAt h e) (e .call .party) ≡ false
     unfolding othersAtWork showsOf
@@ -108,7 +110,7 @@ module _ {n m : ℕ} {P : ℕ → Party} {L : ℕ → Link} (h : List Event) (e 
         let ns : Nz (P q .served) = not-true _ (and-l _ _ k) in
         let th = w .thereWork (P q .served) (w .works q ns) in
         let tx : L (P q .served) .tx ≡ txAt h e = same-true _ _ (sym (w .ofTx (P q .served) th (txAt h e) z) ∙ and-r (not (same (P q .served) 0)) _ k) in
-        let b = sym (a .code) ∙ c in
+        let b = and-l _ (not (a .against)) (sym (a .code) ∙ c) in
         let un = not-true _ (and-l (not (isRollbackOnly (P (e .call .party)))) _ b) in
         not-both (keeps-open un (P q .served) _ (there-made (P q .served) th tx) (w .unfinished (P q .served) th))
         (not-true _ (and-r (not (a .late)) _ (and-r (not (isRollbackOnly (P (e .call .party)))) _ b))))

@@ -5,19 +5,22 @@ use mathlib.Core.Bool.{Bool, true, false, not, _&&_}
 use mathlib.Core.List.{List, _∷_}
 use Prim.Native.Nat.{ℕ, suc, _<_}
 use native.Mathlib.Omega.{arith}
+use lib.Dec.{eqb}
 use borrow.Author.Tests.{eqb-true}
 use Rattle.rules.specs.Choice.{pick}
 use Rattle.rules.specs.Record.{isAttached, isRollbackOnly, party, live, linkOf}
 use Rattle.rules.specs.Transaction.{servedTx, txOf, late, isOwner, isOpenOf, canCommit}
 use Rattle.rules.specs.Lists.{anyOf}
 use Rattle.rules.specs.Tx.{commitOf}
+use Rattle.rules.specs.Votes.{reportOf}
+use Rattle.rules.specs.Standing.{isAgainst}
 use Rattle.rules.specs.Step.{ruleOf, isKind, advanced, laterOf, answeredTo}
 use Rattle.rules.specs.History.{Event, ofKind, past21, txAt, latestTx, upToStart, greatestClock, deadlinePassed}
-use Rattle.rules.specs.History.{committed, senderRule, commitRule, aloneRule, holds}
+use Rattle.rules.specs.History.{standsAgainst, committed, senderRule, commitRule, aloneRule, holds}
 use Rattle.rules.specs.declared.Call.{Call}
 use Rattle.rules.specs.declared.Monitor.{Monitor}
 use Rattle.rules.specs.declared.Ruled.{Ruled}
-use Rattle.rules.proofs.Logic.{Nz, same-refl, same-true, and-l, and-r, and-true}
+use Rattle.rules.proofs.Logic.{Nz, test, same-refl, same-true, and-l, and-r, and-true}
 use Rattle.rules.proofs.Fine.{noLink, txP, look, Fine}
 use Rattle.rules.proofs.Looks.{txOf-txP, any-some, any-one, link-low}
 use Rattle.rules.proofs.Parties.{isOwner-only}
@@ -31,6 +34,7 @@ use Rattle.rules.proofs.History.Bridge.{Bounds, told-grows, bounds-grow
 use Rattle.rules.proofs.History.Commits.{Answered, commit-holds}
 use Rattle.rules.proofs.History.Turns.{Turns, turns, sender-holds}
 use Rattle.rules.proofs.History.Times.{Times, times, clock-next, late-shown}
+use Rattle.rules.proofs.History.Votes.{Votes, against-shown, votes-other, votes-report}
 use Rattle.rules.proofs.History.Committing.{commit-code}
 use Rattle.rules.proofs.History.Walk.Moved.{eventOf, Moved}
 use Rattle.rules.proofs.History.Walk.All.{rule-moved}
@@ -41,12 +45,17 @@ pub record Reached (m : Monitor) (h : List Event) : Type 0 where
   pub world : World (m .lastlink) (m .lasttx) (λ q. party m q) (λ d. look d (live m)) (showsOf h)
   pub turns : Turns (m .lastlink) (λ d. look d (live m)) h
   pub times : Times m h
+  pub votes : Votes (λ q. party m q) h
   pub bounds : Bounds (m .lastlink) h
   pub statement : holds h ≡ true
 
 commit-rule : (m : Monitor) (p k a b c : ℕ) → k ≡ 4 → ruleOf m p k a b c ≡ commitOf m p
 unfolding ruleOf pick
 commit-rule m p k a b c e = rw e
+
+report-rule : (m : Monitor) (p k a b c : ℕ) → k ≡ 22 → ruleOf m p k a b c ≡ reportOf m p a b c
+unfolding ruleOf pick
+report-rule m p k a b c e = rw e
 
 -- the same with the clock of a call, of which the history does not tell yet
 module _ (m : Monitor) (h : List Event) (i : Reached m h) (c : Call) (kind : isKind (c .kind) ≡ true) (party16 : c .party < 16) where
@@ -70,6 +79,10 @@ module _ (m : Monitor) (h : List Event) (i : Reached m h) (c : Call) (kind : isK
   world₀ : World (m₀ .lastlink) (m₀ .lasttx) (λ q. party m₀ q) (λ d. look d (live m₀)) (showsOf h)
   unfolding m₀
   world₀ = i .world
+
+  votes₀ : Votes (λ q. party m₀ q) h
+  unfolding m₀
+  votes₀ = i .votes
 
   turns₀ : Turns (m₀ .lastlink) (λ d. look d (live m₀)) h
   unfolding m₀
@@ -113,6 +126,16 @@ module _ (m : Monitor) (h : List Event) (i : Reached m h) (c : Call) (kind : isK
       times m₀ h c r fine₀ moved (unfold e in clock₁) latest₀ (unfold m₀ in i .times .timeout) (unfold m₀ in i .times .deadline) (unfold m₀ in i .times .opened)
       (unfold showsOf in world₀ .seenLow) (unfold showsOf in world₀ .seenHigh (suc (m₀ .lasttx)) (omega arith)) (world₀ .below)
 
+  -- ---- the managers' reports
+  votes₁ : Votes (λ q. party (r .monitor) q) (e ∷ h)
+  unfolding e
+  votes₁ = test (eqb (c .kind) 22)
+      (λ y. rw (reported y) (votes-report m₀ h c fine₀ party16 votes₀ (λ z q o. unique world₀ q (c .party) (rw o z) o) (eqb-true _ _ y)))
+      (λ n. votes-other m₀ h c r moved votes₀ n (unfold showsOf in world₀ .seenHigh (suc (m₀ .lasttx)) (omega arith)))
+    where
+      reported : eqb (c .kind) 22 ≡ true → r ≡ reportOf m₀ (c .party) (c .a) (c .b) (c .c)
+      reported y = unfold r in report-rule m₀ (c .party) (c .kind) (c .a) (c .b) (c .c) (eqb-true _ _ y)
+
   -- ---- the commit rule
   commits : c .kind ≡ 4 → r ≡ commitOf m₀ (c .party)
   unfolding r
@@ -122,7 +145,7 @@ module _ (m : Monitor) (h : List Event) (i : Reached m h) (c : Call) (kind : isK
     owner₀ : isOwner m₀ (c .party) ≡ true
     owner₀ = isOwner-only m₀ (c .party) z (λ q y. unique world₀ q (c .party) (rw y z) y)
 
-    code₁ : committed e ≡ canCommit m₀ (c .party)
+    code₁ : committed e ≡ canCommit m₀ (c .party) && not (anyOf isAgainst (party m₀ (c .party) .reports))
     unfolding e
     code₁ = ap (λ (x : Ruled). committed (eventOf c x)) (commits k) ∙ commit-code m₀ c (unfold m₀ in i .times .opened (c .party) z) z owner₀
 
@@ -149,9 +172,12 @@ module _ (m : Monitor) (h : List Event) (i : Reached m h) (c : Call) (kind : isK
     unfolding openEnd
     opened d a x = any-one (isOpenOf t) (no-open t) d (live m₀) (unfold isOpenOf in and-true _ _ a (rw x (same-refl t)))
 
-    code : committed e ≡ not (isRollbackOnly (party m₀ (c .party))) && (not (late (m₀ .clock) (party m₀ (c .party))) && not openEnd)
+    code : committed e ≡ (not (isRollbackOnly (party m₀ (c .party))) && (not (late (m₀ .clock) (party m₀ (c .party))) && not openEnd)) && not (anyOf isAgainst (party m₀ (c .party) .reports))
     unfolding openEnd canCommit
     code = code₁ k nz ∙ rw o
+
+    against₂ : anyOf isAgainst (party m₀ (c .party) .reports) ≡ standsAgainst h t
+    against₂ = against-shown votes₀ (c .party) nz (fine₀ .choices (c .party)) ∙ rw o
 
     late₂ : late (m₀ .clock) (party m₀ (c .party)) ≡ deadlinePassed (upToStart t h) (e ∷ h)
     late₂ = sym (rw o at (late₁ k nz))
@@ -162,10 +188,12 @@ module _ (m : Monitor) (h : List Event) (i : Reached m h) (c : Call) (kind : isK
       record {
         late = late (m₀ .clock) (party m₀ (c .party));
         openEnd = openEnd k′ (txAt h e) z o′;
+        against = anyOf isAgainst (party m₀ (c .party) .reports);
+        againstIs = against₂ k′ (txAt h e) z o′;
         lateIs = late₂ k′ (txAt h e) z o′;
         opens = opens k′ (txAt h e) z o′;
         opened = opened k′ (txAt h e) z o′;
-        code = own-code _ (code k′ (txAt h e) z o′);
+        code = own-code _ _ (code k′ (txAt h e) z o′);
       }
     where
       kind-4 : ofKind 4 e ≡ true → c .kind ≡ 4
@@ -174,9 +202,9 @@ module _ (m : Monitor) (h : List Event) (i : Reached m h) (c : Call) (kind : isK
       own-tx : party m₀ (e .call .party) .owned ≡ txAt h e → party m₀ (c .party) .owned ≡ txAt h e
       own-tx o = unfold e eventOf in o
 
-      own-code : (b : Bool) → committed e ≡ not (isRollbackOnly (party m₀ (c .party))) && b
-          → committed e ≡ not (isRollbackOnly (party m₀ (e .call .party))) && b
-      own-code b x = unfold e eventOf in x
+      own-code : (b s : Bool) → committed e ≡ (not (isRollbackOnly (party m₀ (c .party))) && b) && s
+          → committed e ≡ (not (isRollbackOnly (party m₀ (e .call .party))) && b) && s
+      own-code b s x = unfold e eventOf in x
 
   rules₁ : (commitRule h e ≡ true) × (aloneRule h e ≡ true)
   rules₁ = commit-holds h e world₀ (latest₀ (e .call .party) ∙ txOf-txP m₀ (fine₀ .frame) (e .call .party)) answers
@@ -196,6 +224,7 @@ module _ (m : Monitor) (h : List Event) (i : Reached m h) (c : Call) (kind : isK
     world = world₁;
     turns = turns c (c .party) _ _ _ _ _ _ _ _ h e (unfold e eventOf in refl) (link-low m₀ (fine₀ .frame)) turns₀ tells (moved .move);
     times = times₁;
+    votes = votes₁;
     bounds = bounds₁;
     statement = rw (sender₁, rules₁ .0, rules₁ .1) (i .statement);
   }

@@ -10,18 +10,22 @@ use lib.ListN.{getD, drop, replicate}
 use borrow.Author.Tests.{leb-true}
 use Rattle.rules.specs.Choice.{pick}
 use Rattle.rules.specs.Codes.{unknownKind, unknownParty}
-use Rattle.rules.specs.Record.{freshParty, freshMonitor, party}
+use Rattle.rules.specs.Record.{noReports, freshParty, freshMonitor, party}
 use Rattle.rules.specs.Transaction.{servedTx, txOf}
 use Rattle.rules.specs.Step.{turnedDown, callOf, stepOf}
 use Rattle.rules.specs.Run.{callAt, placesOf, ranOf, answersOf, callsIn, Listed, listOf}
-use Rattle.rules.specs.History.{Event, accepted, unheard, past21, answeredBy, replied, latestTx, greatestClock, shownTimeout, isOwnersCommit}
+use Rattle.rules.specs.History.{Event, some, accepted, unheard, past21, answeredBy, replied, latestTx, greatestClock, shownTimeout, isOwnersCommit}
 use Rattle.rules.specs.History.{commitRule, aloneRule, holds, firstCall, firstAnswer, thenCalls, thenList}
+use Rattle.rules.specs.After.{recordAfter}
+use Rattle.rules.specs.Lists.{anyOf}
+use Rattle.rules.specs.Votes.{cantStart}
+use Rattle.rules.specs.Standing.{standing, someStopped}
 use Rattle.rules.specs.Demand.{Entry, single, lent, thenLent, thenEntries, Demand3}
 use Rattle.rules.specs.declared.Answer.{Answer}
 use Rattle.rules.specs.declared.Call.{Call}
 use Rattle.rules.specs.declared.Monitor.{Monitor}
 use Rattle.rules.specs.declared.Stepped.{Stepped}
-use Rattle.rules.proofs.Logic.{byTest, not-both, and-false, cond-same, zero-nz}
+use Rattle.rules.proofs.Logic.{Nz, byTest, not-both, and-false, cond-same, zero-nz}
 use Rattle.rules.proofs.Fine.{look}
 use Rattle.rules.proofs.AnswerCodes.{codes-apart}
 use Rattle.rules.proofs.Sound.{fine-sound, fresh-fine}
@@ -32,6 +36,7 @@ use Rattle.rules.proofs.History.Bridge.{bounds-next, next}
 use Rattle.rules.proofs.History.Start.{start-world}
 use Rattle.rules.proofs.History.Turns.{turns-still, silent-rule, no-turns}
 use Rattle.rules.proofs.History.Times.{Times, started-before}
+use Rattle.rules.proofs.History.Votes.{stopped-shown, votes-refused}
 use Rattle.rules.proofs.History.Reached.{Reached, reached-next}
 use Rattle.rules.proofs.History.Walk.Moved.{eventOf}
 
@@ -85,6 +90,7 @@ module _ (m : Monitor) (h : List Event) (i : Reached m h) (c : Call) (code : ℤ
     world = plainly-old (next (m .lastlink) h e nothing (i .bounds) quiet tt valueless) (rw no-tx (omega arith)) plain-nothing (i .world);
     turns = turns-still (m .lastlink) _ h e (i .turns) quiet;
     times = times-refused;
+    votes = votes-refused e (unfold accepted in not-code (pos 0) refl) (i .votes);
     bounds = bounds-next (m .lastlink) h e nothing quiet tt (i .bounds);
     statement = rw (silent-rule h e quiet, commit-quiet, alone-quiet) (i .statement);
   }
@@ -132,6 +138,7 @@ reached-fresh = record {
     deadline = λ q z. zero-nz (rw (fresh-parties 16 q)) z;
     opened = λ q z. zero-nz (rw (fresh-parties 16 q)) z;
   };
+  votes = record { none = λ q _. rw (fresh-parties 16 q); kept = λ q z a. zero-nz (rw (fresh-parties 16 q)) z; known = unfold some in refl };
   bounds = tt;
   statement = refl;
 }
@@ -156,17 +163,31 @@ reached-lent m h cs out i = byTest (λ (l : Listed). Reached (l .monitor) (thenL
     (λ _. unfold thenLent in i))
     (λ _. unfold thenLent in i)
 
-reached-all : (es : List Entry) (m : Monitor) (h : List Event) → Reached m h → holds (thenEntries m h es) ≡ true
-unfolding thenEntries
-reached-all [] m h i = i .statement
+reached-all : (es : List Entry) (m : Monitor) (h : List Event) → Reached m h → Reached (recordAfter m es) (thenEntries m h es)
+unfolding thenEntries recordAfter
+reached-all [] m h i = i
 reached-all (single c ∷ es) m h i = reached-all es (stepOf m c .monitor) _ (unfold eventBy in reached-step m h i c)
 reached-all (lent cs out ∷ es) m h i = reached-all es (listOf m cs out .monitor) _ (reached-lent m h cs out i)
 
 -- demand 3
 pub demand3 : Demand3
 unfolding Demand3
-demand3 es = reached-all es freshMonitor [] reached-fresh
+demand3 es = reached-all es freshMonitor [] reached-fresh .statement
 
--- and of one lent list, of which a contract says it
+-- no list leaves a report with a party that owns no transaction
+pub never-stray : (es : List Entry) (q : ℕ) → party (recordAfter freshMonitor es) q .owned ≡ 0 → party (recordAfter freshMonitor es) q .reports ≡ noReports
+never-stray es = reached-all es freshMonitor [] reached-fresh .votes .none
+
+-- and the report that the record keeps of a manager is the standing one, "can't start" included
+pub kept-stands : (es : List Entry) (q : ℕ) → Nz (party (recordAfter freshMonitor es) q .owned) → (a : ℕ)
+    → getD (party (recordAfter freshMonitor es) q .reports) a 0 ≡ standing (thenEntries freshMonitor [] es) (party (recordAfter freshMonitor es) q .owned) a
+kept-stands es = reached-all es freshMonitor [] reached-fresh .votes .kept
+
+-- and one of the four can't start by the record just if the last report of one of them says so
+pub kept-stops : (es : List Entry) (q : ℕ) → Nz (party (recordAfter freshMonitor es) q .owned)
+    → anyOf cantStart (party (recordAfter freshMonitor es) q .reports) ≡ someStopped (thenEntries freshMonitor [] es) (party (recordAfter freshMonitor es) q .owned)
+kept-stops es q z = let i = reached-all es freshMonitor [] reached-fresh in stopped-shown (i .votes) q z (i .fine .choices q)
+
+-- demand 3 of one lent list, of which a contract says it
 pub lent-holds : (cs : List ℕ) (out : List ℤ) → holds (thenLent cs (listOf freshMonitor cs out) []) ≡ true
 lent-holds cs out = reached-lent freshMonitor [] cs out reached-fresh .statement

@@ -152,13 +152,13 @@ module _ (m : Monitor) (h : List Event) (c : Call) (r : Ruled) (f : Fine m) (k :
       ends : endsIn (suc (m .lasttx)) e ≡ true
       ends = unfold endsIn e eventOf answeredTo in eq-eqb (txOf (r .monitor) (c .party)) (suc (m .lasttx)) (new ∙ a)
 
-  deadline-own : Own m (party m (c .party)) (party (r .monitor) (c .party)) → Nz (party (r .monitor) (c .party) .owned)
+  deadline-own : Own m (c .kind) (party m (c .party)) (party (r .monitor) (c .party)) → Nz (party (r .monitor) (c .party) .owned)
       → party (r .monitor) (c .party) .deadline
       ≡ deadlineOf (greatestClock (upToStart (party (r .monitor) (c .party) .owned) (e ∷ h)))
       (timeoutAtStart (upToStart (party (r .monitor) (c .party) .owned) (e ∷ h)))
-  deadline-own (keeps a b) z = deadline-old (c .party) (party (r .monitor) (c .party)) a b z
-  deadline-own (loses a) z = zero-nz a z
-  deadline-own (begins a b) z = b ∙ rw (a, new-start a, now, start)
+  deadline-own (keeps a b _) z = deadline-old (c .party) (party (r .monitor) (c .party)) a b z
+  deadline-own (loses a _) z = zero-nz a z
+  deadline-own (begins a b _) z = b ∙ rw (a, new-start a, now, start)
     where
       now : greatestClock (e ∷ h) ≡ m .clock
       now = unfold e in clk

@@ -14,3 +14,4 @@ pub mod Says
 pub mod Services
 pub mod States
 pub mod Tx
+pub mod Votes

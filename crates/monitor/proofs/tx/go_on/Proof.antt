@@ -1,8 +1,10 @@
--- `tx::go_on` meets its contract: unchained, chained, and chained with the numbers spent.
+-- `tx::go_on` meets its contract: unchained, chained, and chained where no new transaction can begin.
 -- Assumes nothing.
-use Rattle.monitor.proofs.Usual.{_≡_, ap, ap₂, sym, _∙_, needs, eq-eqb, ne-eqb, pick-true, pick-false, toZ}
-use Rattle.monitor.proofs.Usual.{ofZ, w64, Monitor, ruled, entered, goOn, noBegin, view}
-use Rattle.monitor.proofs.Telling.{code-told, tx-left, tx-spent}
+use Rattle.monitor.proofs.Usual.{ℕ, _≡_, ap, ap₂, sym, _∙_, _&&_, arith, needs, ltb, eq-eqb, ne-eqb, pick-true, pick-false, toZ}
+use Rattle.monitor.proofs.Usual.{ofZ, w64, Monitor, ruled, entered, goOn, noBegin}
+use borrow.Author.Tests.{ltb-true}
+use Rattle.rules.proofs.Logic.{and-r}
+use Rattle.monitor.proofs.Telling.{code-told}
 use Rattle.monitor.proofs.tx.go_on.Statement.{statement}
 use Rattle.monitor.proofs.tx.go_on.Tie as tie
 
@@ -26,7 +28,10 @@ last-tx-requires : tie.Need-last-tx-requires
 last-tx-requires c κs = search needs
 
 begin-tx-requires : tie.Need-begin-tx-requires
-begin-tx-requires c κs = search needs
+begin-tx-requires c κs =
+    let start = c .before .before .before .before .before in
+    let last = ltb-true (c .before .before .last-tx .result) 60000 (and-r (start .args .start) _ (c .before .if2 .taken)) in
+    (start .pre .0, omega (arith, last, c .before .before .last-tx .ensures), start .pre .2)
 
 enter-requires-2 : tie.Need-enter-requires-2
 enter-requires-2 c κs = search needs
@@ -45,7 +50,7 @@ returns-2 c =
     let a = start .args in
     let n = c .before .enter2 .ensures in
     let z : toZ w64 (ofZ w64 (a .code)) ≡ a .code = search needs in
-    let left = tx-left (view (a .s .now)) _ (read-last .last-tx .ensures) (number-left .if2 .taken) in (
+    let left = sym (ap (λ (t : ℕ). a .start && ltb t 60000) (read-last .last-tx .ensures)) ∙ number-left .if2 .taken in (
       code-told _ (c .coded2 .ensures)
           ∙ ap₂ ruled (n .0 ∙ ap (λ (m : Monitor). entered m (a .p) 4) (begun .begin-tx .ensures .0)) z
           ∙ sym (pick-true _ _ _ (eq-eqb _ _ (renews .if1 .left)) ∙ pick-true _ _ _ left),
@@ -74,7 +79,7 @@ returns-3 c =
     let b = c .before .no-begin in
     let z : toZ w64 (ofZ w64 (a .code)) ≡ a .code = search needs in
     let r : toZ w64 (ofZ w64 (b .result)) ≡ b .result = search needs in
-    let spent = tx-spent (view (a .s .now)) _ (read-last .last-tx .ensures) (none-left .if2 .left) in (
+    let spent = sym (ap (λ (t : ℕ). a .start && ltb t 60000) (read-last .last-tx .ensures)) ∙ none-left .if2 .left in (
       code-told _ (c .coded3 .ensures)
           ∙ ap₂ ruled (n .0) (r ∙ b .ensures ∙ ap noBegin z)
           ∙ sym (pick-true _ _ _ (eq-eqb _ _ (renews .if1 .left)) ∙ pick-false _ _ _ spent),

@@ -1,6 +1,8 @@
 -- `tx::tx_commit` meets its contract: the owner's transaction ends, and the party goes on with the commit's code.
 -- Assumes nothing.
-use Rattle.monitor.proofs.Usual.{ℕ, _≡_, ap, ap₂, _∙_, needs, toZ, ofZ, w64, Monitor, goOn, commitCode, commitOf, view}
+use mathlib.Core.Path.{subst}
+use Rattle.monitor.specs.Ending.{EndCode}
+use Rattle.monitor.proofs.Usual.{ℕ, _≡_, ap, ap₂, sym, _∙_, List, needs, toZ, ofZ, w64, goOn, commitCode, allCanStart, commitOf, view}
 use Rattle.monitor.proofs.Telling.{blank-told, stranger-told, owner-told, first-of-owned}
 use Rattle.monitor.proofs.tx.tx_commit.Statement.{statement}
 use Rattle.monitor.proofs.tx.tx_commit.Tie as tie
@@ -50,12 +52,18 @@ can-commit-requires c κs =
     let first = first-of-owned (view (a .s .now)) (a .p) _ _ (read-owned .owned-at .ensures) (c .before .first-of-tx .ensures) in
     (start .pre .0, start .pre .1, first)
 
+reports-at-requires : tie.Need-reports-at-requires
+reports-at-requires c κs = search needs
+
 commit-code-requires : tie.Need-commit-code-requires
 commit-code-requires c κs = search needs
 
+all-can-start-requires : tie.Need-all-can-start-requires
+all-can-start-requires c κs = search needs
+
 end-tx-requires : tie.Need-end-tx-requires
 end-tx-requires c κs =
-    let asked-commit = c .before .before in
+    let asked-commit = c .before .before .before .before .before in
     let found-first = asked-commit .before .before in
     let read-owned = found-first .before .before in
     let asked-owner = read-owned .before .before .before in
@@ -66,14 +74,26 @@ end-tx-requires c κs =
     (start .pre .0, start .pre .1, start .pre .2, first)
 
 go-on-requires : tie.Need-go-on-requires
-go-on-requires c κs = search needs
+go-on-requires c κs =
+    let chose-code = c .before .before .before .before in
+    let asked-commit = chose-code .before .before .before in
+    let found-first = asked-commit .before .before in
+    let read-owned = found-first .before .before in
+    let asked-owner = read-owned .before .before .before in
+    let asked-state = asked-owner .before .before .before in
+    let start = asked-state .before .before in
+    let code = chose-code .commit-code in
+    let z : toZ w64 (ofZ w64 (code .result)) ≡ code .result = search needs in
+    (start .pre .0, subst EndCode (sym z) (code .ensures .1), c .before .end-tx .ensures .1)
 
 returns-3 : tie.Need-returns-3
 unfolding commitOf
 returns-3 c =
     let tx-ended = c .before .before in
-    let chose-code = tx-ended .before .before in
-    let asked-commit = chose-code .before in
+    let started = tx-ended .before .before in
+    let chose-code = started .before in
+    let read-reports = chose-code .before in
+    let asked-commit = read-reports .before .before in
     let found-first = asked-commit .before .before in
     let read-owned = found-first .before .before in
     let is-own = read-owned .before .before in
@@ -84,10 +104,12 @@ returns-3 c =
     let a = start .args in
     let e = asked-state .state-after .ensures .0 in
     let code = chose-code .commit-code in
-    let z : toZ w64 (ofZ w64 (code .result)) ≡ code .result = search needs in (
+    let z : toZ w64 (ofZ w64 (code .result)) ≡ code .result = search needs in
+    let reports = read-reports .reports-at .ensures in
+    let starts = started .all-can-start .ensures ∙ ap (λ (rs : List ℕ). allCanStart rs) reports in
+    let codes = z ∙ code .ensures .0 ∙ ap₂ commitCode (asked-commit .can-commit .ensures) reports in (
       c .go-on .ensures .0
-          ∙ ap₂ (λ (m : Monitor) (s : ℕ). goOn m (a .p) s (toZ w64 (ofZ w64 (code .result)))) (tx-ended .end-tx .ensures .0) e
-          ∙ ap (goOn _ _ _) (z ∙ code .ensures .0 ∙ ap commitCode (asked-commit .can-commit .ensures))
+          ∙ (λ i. goOn (tx-ended .end-tx .ensures .0 i) (a .p) (e i) (starts i) (codes i))
           ∙ owner-told _ _ _ _ _ e (allowed .if1 .left) _ (asked-owner .is-owner .ensures) (is-own .if2 .left),
       c .go-on .ensures .1,
     )
@@ -105,7 +127,9 @@ tx-commit-spec =
     owned-at-requires
     first-of-tx-requires
     can-commit-requires
+    reports-at-requires
     commit-code-requires
+    all-can-start-requires
     end-tx-requires
     go-on-requires
     returns-3)

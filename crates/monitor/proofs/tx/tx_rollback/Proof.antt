@@ -1,6 +1,6 @@
 -- `tx::tx_rollback` meets its contract: the owner's transaction ends, and the party goes on with 0.
 -- Assumes nothing.
-use Rattle.monitor.proofs.Usual.{ℕ, refl, ap₂, _∙_, inl, needs, Monitor, goOn, rollbackOf, txOk, view}
+use Rattle.monitor.proofs.Usual.{ℕ, refl, ap, _∙_, inl, List, needs, goOn, allCanStart, rollbackOf, txOk, view}
 use Rattle.monitor.proofs.Telling.{blank-told, stranger-told, owner-told, first-of-owned}
 use Rattle.monitor.proofs.tx.tx_rollback.Statement.{statement}
 use Rattle.monitor.proofs.tx.tx_rollback.Tie as tie
@@ -40,19 +40,26 @@ owned-at-requires c κs = search needs
 first-of-tx-requires : tie.Need-first-of-tx-requires
 first-of-tx-requires c κs = search needs
 
+reports-at-requires : tie.Need-reports-at-requires
+reports-at-requires c κs = search needs
+
+all-can-start-requires : tie.Need-all-can-start-requires
+all-can-start-requires c κs = search needs
+
 end-tx-requires : tie.Need-end-tx-requires
 end-tx-requires c κs =
-    let read-owned = c .before .before .before in
+    let found-first = c .before .before .before .before in
+    let read-owned = found-first .before .before in
     let asked-owner = read-owned .before .before .before in
     let asked-state = asked-owner .before .before .before in
     let start = asked-state .before .before in
     let a = start .args in
-    let first = first-of-owned (view (a .s .now)) (a .p) _ _ (read-owned .owned-at .ensures) (c .before .first-of-tx .ensures) in
+    let first = first-of-owned (view (a .s .now)) (a .p) _ _ (read-owned .owned-at .ensures) (found-first .first-of-tx .ensures) in
     (start .pre .0, start .pre .1, start .pre .2, first)
 
 go-on-requires : tie.Need-go-on-requires
 go-on-requires c κs =
-    let found-first = c .before .before .before in
+    let found-first = c .before .before .before .before .before .before in
     let read-owned = found-first .before .before in
     let asked-owner = read-owned .before .before .before in
     let asked-state = asked-owner .before .before .before in
@@ -63,7 +70,9 @@ returns-3 : tie.Need-returns-3
 unfolding rollbackOf
 returns-3 c =
     let tx-ended = c .before .before in
-    let found-first = tx-ended .before .before in
+    let started = tx-ended .before .before in
+    let read-reports = started .before in
+    let found-first = read-reports .before .before in
     let read-owned = found-first .before .before in
     let is-own = read-owned .before .before in
     let asked-owner = is-own .before in
@@ -72,8 +81,8 @@ returns-3 c =
     let start = asked-state .before .before in
     let a = start .args in
     let e = asked-state .state-after .ensures .0 in
-    let next = ap₂ (λ (m : Monitor) (s : ℕ). goOn m (a .p) s txOk) (tx-ended .end-tx .ensures .0) e in
-    (c .go-on .ensures .0 ∙ next ∙ owner-told _ _ _ _ _ e (allowed .if1 .left) _ (asked-owner .is-owner .ensures) (is-own .if2 .left), c .go-on .ensures .1)
+    let starts = started .all-can-start .ensures ∙ ap (λ (rs : List ℕ). allCanStart rs) (read-reports .reports-at .ensures) in
+    (c .go-on .ensures .0 ∙ (λ i. goOn (tx-ended .end-tx .ensures .0 i) (a .p) (e i) (starts i) txOk) ∙ owner-told _ _ _ _ _ e (allowed .if1 .left) _ (asked-owner .is-owner .ensures) (is-own .if2 .left), c .go-on .ensures .1)
 
 pub tx-rollback-spec : {M : Type 1} → statement M
 tx-rollback-spec =
@@ -87,6 +96,8 @@ tx-rollback-spec =
     returns-2
     owned-at-requires
     first-of-tx-requires
+    reports-at-requires
+    all-can-start-requires
     end-tx-requires
     go-on-requires
     returns-3)

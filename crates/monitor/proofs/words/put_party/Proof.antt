@@ -2,6 +2,7 @@
 -- Assumes nothing.
 use borrow.Author.Needs.{needs}
 use Rattle.monitor.proofs.Put.{whole, put-party-law}
+use Rattle.monitor.proofs.Reports.{reports-long}
 use Rattle.monitor.proofs.words.put_party.Statement.{statement}
 use Rattle.monitor.proofs.words.put_party.Tie as tie
 
@@ -17,8 +18,9 @@ returns c =
     let sh = services-high .high in
     let sl = services-low .low in
     let a = start .args in
+    let u = reports-long (a .q) _ (start .good .1 .1 .0) in
     put-party-law (a .s .now) (a .p) (a .q) (sl .result) (sh .result) (dl .result) (dh .result) (start .pre .1) (start .pre .0)
-    (whole (a .q .services) _ _ (sl .ensures) (sh .ensures)) (whole (a .q .deadline) _ _ (dl .ensures) (dh .ensures)) _ (c .store-party .ensures)
+    (whole (a .q .services) _ _ (sl .ensures) (sh .ensures)) (whole (a .q .deadline) _ _ (dl .ensures) (dh .ensures)) u _ (c .store-party .ensures)
 
 pub put-party-spec : {M : Type 1} → statement M
 put-party-spec =

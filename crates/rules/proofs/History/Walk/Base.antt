@@ -3,6 +3,7 @@
 use mathlib.Core.Path.{_≡_, refl, sym, _∙_}
 use mathlib.Core.Bool.{Bool, true, false}
 use Prim.Native.Nat.{ℕ, _<_}
+use lib.Dec.{eqb}
 use lib.IntN.{ℤ, pos}
 use lib.ListN.{set}
 use lib.Seq.{getD-set-same, getD-set-other}
@@ -57,11 +58,11 @@ pick-moved f g = byTest (Moved _ _) f g
 
 -- ---- parties that stay
 pub stays-self : (x : Party) → Stays x x
-stays-self x = record { opened′ = refl; timeout′ = refl; owned′ = refl; deadline′ = refl; served′ = refl }
+stays-self x = record { opened′ = refl; timeout′ = refl; owned′ = refl; deadline′ = refl; served′ = refl; reports′ = refl }
 
 pub marks-stay : (x y : Party) → Marks x y → Stays x y
 marks-stay x y (plain e) = rw e (stays-self x)
-marks-stay x y (marked e) = rw e (record { opened′ = refl; timeout′ = refl; owned′ = refl; deadline′ = refl; served′ = refl })
+marks-stay x y (marked e) = rw e (record { opened′ = refl; timeout′ = refl; owned′ = refl; deadline′ = refl; served′ = refl; reports′ = refl })
 
 pub idle-parties : (m m′ : Monitor) → m′ .parties ≡ m .parties → IdleTo m m′
 idle-parties m m′ e = record { owned′ = λ q. rw e; served′ = λ q. rw e; mark′ = λ q. rw e }
@@ -75,7 +76,7 @@ moved-stays m c r t f k st g h s v = record {
   clock′ = k;
   choices = g;
   others = λ q _. st q;
-  own = keeps (st (c .party) .owned′) (st (c .party) .deadline′);
+  own = keeps (st (c .party) .owned′) (st (c .party) .deadline′) (λ _. st (c .party) .reports′);
   timeout′ = st (c .party) .timeout′ ∙ sym h;
   opened′ = λ o n. rw (st (c .party) .opened′) (o (rw (st (c .party) .owned′) at n));
   past = s .past;
@@ -141,7 +142,7 @@ own-idle {m} o a b c = record {
 pub moved-own : (m : Monitor) (c : Call) (r : Ruled) (x : Party) (t : Tell) → Frame (r .monitor) → r .monitor .clock ≡ m .clock
     → OwnOnly m (r .monitor) (c .party) x
     → (choicesGood (party m (c .party)) ≡ true → choicesGood x ≡ true)
-    → Own m (party m (c .party)) x
+    → Own m (c .kind) (party m (c .party)) x
     → x .timeout ≡ timeAfter (eventOf c r) (party m (c .party) .timeout)
     → ((Nz (party m (c .party) .owned) → isOpened (party m (c .party)) ≡ true) → Nz (x .owned) → isOpened x ≡ true)
     → Says c r t → MoveTo m c (r .monitor) t → Moved m c r
@@ -167,6 +168,7 @@ pub record Quietly (m : Monitor) (c : Call) (v : ℕ) (x : Party) : Type 0 where
   pub deadline′ : x .deadline ≡ party m (c .party) .deadline
   pub mark′ : x .rollbackonly ≡ party m (c .party) .rollbackonly
   pub served′ : x .served ≡ party m (c .party) .served
+  pub reports′ : eqb (c .kind) 22 ≡ false → x .reports ≡ party m (c .party) .reports
   pub time′ : x .timeout ≡ timeAfter (eventOf c (valued (withParty m (c .party) x) v)) (party m (c .party) .timeout)
   pub opened′ : (Nz (party m (c .party) .owned) → isOpened (party m (c .party)) ≡ true) → Nz (x .owned) → isOpened x ≡ true
 
@@ -176,7 +178,7 @@ moved-quiet m c v x k f b e h w =
     let r = valued (withParty m (c .party) x) v in
     let o : OwnOnly m (withParty m (c .party) x) (c .party) x = own-set m (withParty m (c .party) x) (c .party) x (f .frame .shape) b refl in
     moved-own m c r x nothing (party-frame m (f .frame .shape) (c .party) b x (f .frame)) refl o
-    (w .good) (keeps (w .owned′) (w .deadline′)) (w .time′) (w .opened′) (says-accepted c r refl (tells-plain c r k e h))
+    (w .good) (keeps (w .owned′) (w .deadline′) (w .reports′)) (w .time′) (w .opened′) (says-accepted c r refl (tells-plain c r k e h))
     (quiet (record { link = refl; tx = refl }) (own-idle o (w .owned′) (w .served′) (w .mark′)) (λ _. like-refl refl) (λ _. refl))
 
 -- ---- the same of party i, the caller or another, that stays and keeps its mark

@@ -3,6 +3,7 @@
 use mathlib.Core.Path.{_≡_}
 use mathlib.Core.Bool.{true, false, cond, _&&_, _||_}
 use Prim.Native.Nat.{ℕ, suc}
+use lib.Dec.{eqb}
 use Rattle.rules.specs.Choice.{same}
 use Rattle.rules.specs.Record.{isOpened, party, live}
 use Rattle.rules.specs.Transaction.{deadlineOf}
@@ -15,6 +16,7 @@ use Rattle.rules.specs.declared.Party.{Party}
 use Rattle.rules.specs.declared.Ruled.{Ruled}
 use Rattle.rules.proofs.Logic.{Nz}
 use Rattle.rules.proofs.Fine.{look, Frame}
+use Rattle.rules.proofs.Parties.{Cleared}
 use Rattle.rules.proofs.History.Tells.{Tell, tellOf, Valueless}
 use Rattle.rules.proofs.History.Moves.{Move}
 
@@ -29,12 +31,14 @@ pub record Stays (x y : Party) : Type 0 where
   pub owned′ : y .owned ≡ x .owned
   pub deadline′ : y .deadline ≡ x .deadline
   pub served′ : y .served ≡ x .served
+  pub reports′ : y .reports ≡ x .reports
 
--- the caller's own record x becomes y: its transaction as it was, none, or a new one
-pub data Own (m : Monitor) (x y : Party) : Type 0 where
-  keeps : y .owned ≡ x .owned → y .deadline ≡ x .deadline → Own m x y
-  loses : y .owned ≡ 0 → Own m x y
-  begins : y .owned ≡ suc (m .lasttx) → y .deadline ≡ deadlineOf (m .clock) (x .timeout) → Own m x y
+-- the caller's own record x becomes y, by a call of kind k: its transaction as it was, with its reports unless k is 22; none; or
+-- a new one, in either case without reports
+pub data Own (m : Monitor) (k : ℕ) (x y : Party) : Type 0 where
+  keeps : y .owned ≡ x .owned → y .deadline ≡ x .deadline → (eqb k 22 ≡ false → y .reports ≡ x .reports) → Own m k x y
+  loses : y .owned ≡ 0 → Cleared x y → Own m k x y
+  begins : y .owned ≡ suc (m .lasttx) → y .deadline ≡ deadlineOf (m .clock) (x .timeout) → Cleared x y → Own m k x y
 
 -- the caller's timeout, as the call and its answer tell
 unfoldable pub timeAfter : Event → ℕ → ℕ
@@ -45,7 +49,7 @@ pub record Moved (m : Monitor) (c : Call) (r : Ruled) : Type 0 where
   pub clock′ : r .monitor .clock ≡ m .clock
   pub choices : (q : ℕ) → choicesGood (party m q) ≡ true → choicesGood (party (r .monitor) q) ≡ true
   pub others : (q : ℕ) → same q (c .party) ≡ false → Stays (party m q) (party (r .monitor) q)
-  pub own : Own m (party m (c .party)) (party (r .monitor) (c .party))
+  pub own : Own m (c .kind) (party m (c .party)) (party (r .monitor) (c .party))
   pub timeout′ : party (r .monitor) (c .party) .timeout ≡ timeAfter (eventOf c r) (party m (c .party) .timeout)
   pub opened′ : (Nz (party m (c .party) .owned) → isOpened (party m (c .party)) ≡ true)
       → Nz (party (r .monitor) (c .party) .owned) → isOpened (party (r .monitor) (c .party)) ≡ true

@@ -111,7 +111,7 @@ module _ (m : Monitor) (c : Call) (fine : Fine m) (pb : c .party < 16) (k : c .k
       let i = idling m (c .party) idle in
       let own = own-set m (replaced m₁ (nextWaiting m (c .party)) l) (c .party) x (fine .frame .shape) pb refl in
       moved-own m c _ x _ (replaced-frame m₁ fr₁ f room l refl) refl own
-      (λ h. h) (Own.keeps refl refl) (sym (time-kept c _ _ 14 k refl)) (λ h. h) (says-taken c _ k refl)
+      (λ h. h) (Own.keeps refl refl (λ _. refl)) (sym (time-kept c _ _ 14 k refl)) (λ h. h) (says-taken c _ k refl)
       (Move.takes (record { link = refl; tx = refl }) (next .number) (record {
         there = rw is (first-there m (fine .frame) f room);
         number = ap (λ y. y .number) is;

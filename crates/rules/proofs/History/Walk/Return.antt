@@ -7,7 +7,7 @@ use lib.Dec.{eqb}
 use Rattle.rules.specs.Choice.{pick, same}
 use Rattle.rules.specs.Codes.{badArgument, notAllowedNow}
 use Rattle.rules.specs.Lists.{anyOf}
-use Rattle.rules.specs.Record.{freshParty, isRollbackOnly, isAttached, isEnding, ownEnd, party, live, serving, withParty, valued}
+use Rattle.rules.specs.Record.{noReports, freshParty, isRollbackOnly, isAttached, isEnding, ownEnd, party, live, serving, withParty, valued}
 use Rattle.rules.specs.Sound.{choicesGood}
 use Rattle.rules.specs.Return.{plainOutcome, outcomeOf, leave, returnWith, returnOf, diedOut, terminateOf}
 use Rattle.rules.specs.declared.Call.{Call}
@@ -17,7 +17,7 @@ use Rattle.rules.specs.declared.Party.{Party}
 use Rattle.rules.proofs.Logic.{byTest, test, not-both, not-true, pick-true, same-refl, same-true, same-false, same-ne, Nz, zero-nz, byNumber, nz-other}
 use Rattle.rules.proofs.Fine.{look, Fine}
 use Rattle.rules.proofs.Looks.{look-zero, any-one}
-use Rattle.rules.proofs.Parties.{marks-owned, marks-served, marks-grow, mark-good, marks-good}
+use Rattle.rules.proofs.Parties.{marks-owned, marks-served, marks-grow, none-good, marks-good, Cleared, fresh-choices}
 use Rattle.rules.proofs.History.Moves.{Sane, Loses, Leaves, leaves}
 use Rattle.rules.proofs.History.Tells.{left}
 use Rattle.rules.proofs.History.Walk.Moved.{eventOf, timeAfter, loses, Moved}
@@ -86,11 +86,11 @@ module _ (m m′ : Monitor) (p : ℕ) (bad : Bool) (x : Party) (fi : Fine m) (h 
 parted-moved : (m m′ : Monitor) (c : Call) (v : ℕ) (x : Party) → Fine m → eqb (c .kind) 20 || eqb (c .kind) 21 ≡ true → Parted m m′ (c .party) (isBad v) x
     → x .owned ≡ 0 → x .served ≡ 0
     → ((same (party m (c .party) .owned) 0 ≡ true → isRollbackOnly (party m (c .party)) ≡ false) → isRollbackOnly x ≡ false)
-    → (choicesGood (party m (c .party)) ≡ true → choicesGood x ≡ true)
+    → (choicesGood (party m (c .party)) ≡ true → choicesGood x ≡ true) → Cleared (party m (c .party)) x
     → x .timeout ≡ timeAfter (eventOf c (valued m′ v)) (party m (c .party) .timeout)
     → ((e : ℕ) → Nz (party m (c .party) .served) → isAttached (look e (live m)) ≡ true → look e (live m) .originator ≡ c .party → isBad v ≡ true)
     → Moved m c (valued m′ v)
-parted-moved m m′ c v x fi k h xo xs xm xg xt bo =
+parted-moved m m′ c v x fi k h xo xs xm xg xr xt bo =
     let says = says-left c (valued m′ v) k refl in
     let none : party m′ (c .party) .owned ≡ 0 = ap (λ y. y .owned) (h .self) ∙ xo in
     record {
@@ -98,7 +98,7 @@ parted-moved m m′ c v x fi k h xo xs xm xg xt bo =
       clock′ = h .numbers .clock′;
       choices = parted-good m m′ (c .party) (isBad v) x fi h xo xs xm bo xg;
       others = λ q n. marks-stay _ _ (h .marks q n);
-      own = loses none;
+      own = loses none (λ f. ap (λ y. y .reports) (h .self) ∙ xr f);
       timeout′ = ap (λ y. y .timeout) (h .self) ∙ xt;
       opened′ = λ _. zero-nz none;
       past = says .past;
@@ -136,7 +136,10 @@ shed-mark : (x : Party) → (same (x .owned) 0 ≡ true → isRollbackOnly x ≡
 shed-mark x f = shed-by (λ y. isRollbackOnly y ≡ false) x (λ z. f (rw z (same-refl 0))) (λ _. refl)
 
 shed-good : (x : Party) → choicesGood x ≡ true → choicesGood (shed x) ≡ true
-shed-good x g = shed-by (λ y. choicesGood y ≡ true) x (λ _. g) (λ _. mark-good x g)
+shed-good x g = shed-by (λ y. choicesGood y ≡ true) x (λ _. g) (λ _. none-good x g)
+
+shed-cleared : (x : Party) → Cleared x (shed x)
+shed-cleared x f = shed-by (λ y. y .reports ≡ noReports) x f (λ _. refl)
 
 shed-timeout : (x : Party) → shed x .timeout ≡ x .timeout
 shed-timeout x = shed-by (λ y. y .timeout ≡ x .timeout) x (λ _. refl) (λ _. refl)
@@ -146,7 +149,7 @@ module _ (m : Monitor) (c : Call) (fi : Fine m) (b : c .party < 16) where
       → ((i : ℕ) → isAttached (look i (live m)) ≡ true → look i (live m) .originator ≡ c .party → isBad o ≡ true)
       → Moved m c (valued (leave m (c .party) (party m (c .party) .served) o e) o)
   left-moved k s o e n bo = parted-moved m _ c o (serving (shed (party m (c .party))) 0) fi (rw k) (leave-parted m fi (c .party) b s o e n)
-      (shed-owned (party m (c .party))) refl (shed-mark (party m (c .party))) (shed-good (party m (c .party)))
+      (shed-owned (party m (c .party))) refl (shed-mark (party m (c .party))) (shed-good (party m (c .party))) (shed-cleared (party m (c .party)))
       (shed-timeout (party m (c .party)) ∙ sym (time-kept c _ _ 20 k refl)) (λ i _. bo i)
 
   pub return-moved : c .kind ≡ 20 → Moved m c (returnOf m (c .party) (c .a) (c .c))
@@ -163,7 +166,7 @@ module _ (m : Monitor) (c : Call) (fi : Fine m) (b : c .party < 16) where
       → ((i : ℕ) → Nz (party m (c .party) .served) → isAttached (look i (live m)) ≡ true → look i (live m) .originator ≡ c .party → isBad v ≡ true)
       → Moved m c (valued (withParty m′ (c .party) freshParty) v)
   died-moved m′ v x k h bo = parted-moved m _ c v freshParty fi (rw k) (parted-as m m′ (c .party) (isBad v) x freshParty b h)
-      refl refl (λ _. refl) (λ _. refl) (sym (time-none c _ _ (rw k) refl)) bo
+      refl refl (λ _. refl) (λ _. fresh-choices) (λ _. refl) (sym (time-none c _ _ (rw k) refl)) bo
 
   -- it served none, or a link
   either-moved : (served : Bool) (x y : Monitor) (v w : ℕ) → (served ≡ true → Moved m c (valued (withParty x (c .party) freshParty) v))

@@ -17,7 +17,7 @@ module _ (m : Monitor) (c : Call) (f : Fine m) (b : c .party < 16) where
   offers-moved : (k : ℕ) → c .kind ≡ k → isPlain k ≡ true → isTimed k ≡ false → (s : ℕ) → Moved m c (offersNow m (c .party) s)
   unfolding offersNow
   offers-moved k e h i s = moved-party m c (offered s) (c .party) (offering (party m (c .party)) s) k f b e h i
-      (record { opened′ = refl; timeout′ = refl; owned′ = refl; deadline′ = refl; served′ = refl }) refl (λ g. g)
+      (record { opened′ = refl; timeout′ = refl; owned′ = refl; deadline′ = refl; served′ = refl; reports′ = refl }) refl (λ g. g)
 
   pub advertise-moved : c .kind ≡ 10 → Moved m c (advertiseOf m (c .party) (c .a))
   unfolding advertiseOf

@@ -2,6 +2,7 @@
 -- Assumes nothing.
 use mathlib.Core.Path.{_≡_, refl, sym, ap, _∙_}
 use mathlib.Core.Bool.{Bool, true, false}
+use mathlib.Core.List.{List}
 use Prim.Native.Nat.{ℕ, suc, _+_, _<_}
 use native.Mathlib.Omega.{arith}
 use lib.Dec.{eqb, leb}
@@ -9,19 +10,21 @@ use lib.IntN.{ℤ}
 use lib.ListN.{length-set}
 use lib.Seq.{set-set}
 use borrow.Author.Tests.{ltb-true}
-use Rattle.rules.specs.Choice.{same}
-use Rattle.rules.specs.Codes.{txOk, txNotSupported, txInfoOutside, txInfoInside, txRollback, txProtocolError, txError, txEinval, noBegin}
+use Rattle.rules.specs.Choice.{pick, same}
+use Rattle.rules.specs.Codes.{txOk, txNotSupported, txInfoOutside, txInfoInside, txProtocolError, txError, txEinval, noBegin}
 use Rattle.rules.specs.Record.{party, live, withParty, ruled, valued, withTimeout, owning, owningNone}
-use Rattle.rules.specs.Transaction.{txOf, deadlineOf, txLeft, beginTx, endTx, canCommit}
+use Rattle.rules.specs.Transaction.{txOf, deadlineOf, txLeft, beginTx, endTx}
 use Rattle.rules.specs.States.{stateOf, nextOf, inState, entered}
-use Rattle.rules.specs.Tx.{openOf, closeOf, beginOf, goOn, commitCode, commitOf, rollbackOf, infoOf, commitReturnOf, controlOf, timeoutOf}
+use Rattle.rules.specs.Tx.{openOf, closeOf, beginOf, goOn, commitOf, rollbackOf, infoOf, commitReturnOf, controlOf, timeoutOf}
+use Rattle.rules.specs.Votes.{voteCode, commitCode}
 use Rattle.rules.specs.declared.Call.{Call}
 use Rattle.rules.specs.declared.Monitor.{Monitor}
 use Rattle.rules.specs.declared.Party.{Party}
-use Rattle.rules.proofs.Logic.{byTest, Nz, not-both}
+use Rattle.rules.proofs.Logic.{Nz, not-both, and-r}
 use Rattle.rules.proofs.Fine.{look, Frame, Fine}
 use Rattle.rules.proofs.Looks.{txOf-txP}
-use Rattle.rules.proofs.Parties.{party-same, isOwner-owns, mark-good, owned-none}
+use Rattle.rules.proofs.Parties.{party-same, isOwner-owns, none-good, owned-none}
+use Rattle.rules.proofs.Votes.{everyCode, commit-code-test}
 use Rattle.rules.proofs.History.Tells.{nothing, canStart}
 use Rattle.rules.proofs.History.Moves.{Move, ends, renews}
 use Rattle.rules.proofs.History.Walk.Moved.{Own, Moved}
@@ -43,6 +46,7 @@ module _ (m : Monitor) (c : Call) (f : Fine m) (b : c .party < 16) where
     deadline′ = refl;
     mark′ = refl;
     served′ = refl;
+    reports′ = λ _. refl;
     time′ = sym (time-kept c (valued (withParty m (c .party) (inState (party m (c .party)) s)) 0) _ k e i);
     opened′ = λ _ _. in-opened (party m (c .party)) s n;
   })
@@ -66,6 +70,7 @@ module _ (m : Monitor) (c : Call) (f : Fine m) (b : c .party < 16) where
         deadline′ = refl;
         mark′ = refl;
         served′ = refl;
+        reports′ = λ _. refl;
         time′ = sym (time-set c (valued (withParty m (c .party) (withTimeout (party m (c .party)) (c .a))) 0) _ e refl);
         opened′ = λ o n. o n;
       }))
@@ -94,6 +99,7 @@ module _ (m : Monitor) (c : Call) (f : Fine m) (b : c .party < 16) where
     deadline′ = refl;
     mark′ = refl;
     served′ = refl;
+    reports′ = λ _. refl;
     time′ = sym (time-none c (valued (withParty m (c .party) (withTimeout (inState (party m (c .party)) s) 0)) 0) _ (rw e) refl);
     opened′ = λ o n. not-both {b = eqb (party m (c .party) .owned) 0} (rw (owned-none m (c .party) (state-low (state-is m (c .party)) h (o n)))) n;
   })
@@ -155,7 +161,7 @@ module _ (m : Monitor) (c : Call) (f : Fine m) (b : c .party < 16) where
   unfolding entered beginTx inState canStart
   begins-moved e s n t h = let p = c .party in let y = inState (begun m p) s in let r = ruled (entered (beginTx m p) p s) txOk in
       moved-own m c r y nothing (frame-entered p s b (begin-frame m (f .frame) p b h)) refl (begun-own m (f .frame) p b h s)
-      (in-good (begun m p) s) (Own.begins (omega arith) refl) (sym (time-kept c r _ 3 e refl)) (λ _ _. in-opened (begun m p) s n)
+      (in-good (begun m p) s) (Own.begins (omega arith) refl (λ f. f (owned-none m p t))) (sym (time-kept c r _ 3 e refl)) (λ _ _. in-opened (begun m p) s n)
       (tx-says c 3 e refl _ txOk refl)
       (Move.begins refl (omega arith) (rw e) (sym (txOf-txP m (f .frame) p) ∙ t) (begun-begins m (f .frame) p b h s (suc (m .lasttx)) refl))
 
@@ -177,7 +183,7 @@ module _ (m : Monitor) (c : Call) (f : Fine m) (b : c .party < 16) where
         let r = ruled (entered (endTx m p) p s) code in
         let o = own-entered s (end-own m (f .frame) p b) (end-frame m (f .frame) p b) b in
         moved-own m c r y nothing (frame-entered p s b (end-frame m (f .frame) p b)) refl o
-        (λ g. in-good (owningNone (party m p)) s (mark-good (party m p) g)) (Own.loses refl) (sym (time-kept c r _ k e timeless)) (λ _ n. not-both refl n)
+        (λ g. in-good (owningNone (party m p)) s (none-good (party m p) g)) (Own.loses refl (λ _. refl)) (sym (time-kept c r _ k e timeless)) (λ _ n. not-both refl n)
         (tx-says c k e plain _ code z)
         (ends (record { link = refl; tx = refl }) (ends-to m (f .frame) p b has (entered (endTx m p) p s) y o refl refl refl refl))
 
@@ -194,36 +200,36 @@ module _ (m : Monitor) (c : Call) (f : Fine m) (b : c .party < 16) where
         let was = end-own m (f .frame) p b .here in
         moved-own m c r y nothing (frame-entered p s b (begin-frame m′ fr p b h)) (end-clock m p)
         (own-then (end-own m (f .frame) p b) (begun-own m′ fr p b h s))
-        (λ g. in-good (begun m′ p) s (rw was (mark-good (party m p) g)))
-        (Own.begins (rw (end-lasttx m p) (omega arith)) (rw (end-clock m p, was)))
+        (λ g. in-good (begun m′ p) s (rw was (none-good (party m p) g)))
+        (Own.begins (rw (end-lasttx m p) (omega arith)) (rw (end-clock m p, was)) (λ _. ap (λ x. x .reports) was))
         (ap (λ x. x .timeout) was ∙ sym (time-kept c r _ k e timeless))
         (λ _ _. in-opened (begun m′ p) s n)
         (tx-says c k e plain _ code z)
         (renews (end-lastlink m p) (rw (end-lasttx m p) (omega arith)) start (λ q. party m′ q) (λ d. look d (live m′)) (end-ends m (f .frame) p b has)
         (begun-begins m′ fr p b h s (suc (m .lasttx)) (ap suc (sym (end-lasttx m p)))))
 
-    goes-on : (next : ℕ) (code : ℤ) → isPast code ≡ true → isPast (noBegin code) ≡ true → Moved m c (goOn (endTx m (c .party)) (c .party) next code)
+    goes-on : (next : ℕ) (start : Bool) (code : ℤ) → isPast code ≡ true → isPast (noBegin code) ≡ true → Moved m c (goOn (endTx m (c .party)) (c .party) next start code)
     unfolding goOn
-    goes-on next code z z′ = pick-moved
-        (λ _. pick-moved (λ h. renews-moved 4 refl h code z) (λ _. ends-moved 2 (noBegin code) z′))
+    goes-on next start code z z′ = pick-moved
+        (λ _. pick-moved (λ h. renews-moved 4 refl (and-r start _ h) code z) (λ _. ends-moved 2 (noBegin code) z′))
         (λ _. ends-moved next code z)
 
-  commit-past : (can : Bool) → isPast (commitCode can) ≡ true
-  unfolding commitCode
-  commit-past can = byTest (λ z. isPast z ≡ true) {x = txOk} {y = txRollback} (λ _. refl) (λ _. refl)
+  commit-past : (can : Bool) (rs : List ℕ) → isPast (commitCode can rs) ≡ true
+  unfolding everyCode voteCode pick
+  commit-past can rs = commit-code-test (λ z. isPast z) refl can rs
 
-  commit-past-no : (can : Bool) → isPast (noBegin (commitCode can)) ≡ true
-  unfolding commitCode noBegin
-  commit-past-no can = byTest (λ z. isPast (noBegin z) ≡ true) {x = txOk} {y = txRollback} (λ _. refl) (λ _. refl)
+  commit-past-no : (can : Bool) (rs : List ℕ) → isPast (noBegin (commitCode can rs)) ≡ true
+  unfolding everyCode voteCode pick noBegin
+  commit-past-no can rs = commit-code-test (λ z. isPast (noBegin z)) refl can rs
 
   pub commit-moved : c .kind ≡ 4 → Moved m c (commitOf m (c .party))
   unfolding commitOf canStart
   commit-moved e = ask-moved (λ _. ask-moved
-      (λ o. goes-on 4 e refl refl (rw e) (isOwner-owns m (c .party) o) _ _ (commit-past (canCommit m (c .party))) (commit-past-no (canCommit m (c .party))))
+      (λ o. goes-on 4 e refl refl (rw e) (isOwner-owns m (c .party) o) _ _ _ (commit-past _ _) (commit-past-no _ _))
       (λ _. refused txProtocolError refl f)) (λ _. refused txProtocolError refl f)
 
   pub rollback-moved : c .kind ≡ 5 → Moved m c (rollbackOf m (c .party))
   unfolding rollbackOf canStart noBegin
   rollback-moved e = ask-moved (λ _. ask-moved
-      (λ o. goes-on 5 e refl refl (rw e) (isOwner-owns m (c .party) o) _ _ refl refl)
+      (λ o. goes-on 5 e refl refl (rw e) (isOwner-owns m (c .party) o) _ _ _ refl refl)
       (λ _. refused txProtocolError refl f)) (λ _. refused txProtocolError refl f)
