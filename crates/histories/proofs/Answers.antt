@@ -14,7 +14,8 @@ use Rattle.rules.specs.Lists.{firstOf, anyOf, collect}
 use Rattle.rules.specs.Record.{freshMonitor, blanks, numbered, owns, ownEnd, linkOf, changed, goneOf, removed}
 use Rattle.rules.specs.Transaction.{servedTx, txOf, ended, expired, isOwner, rollbackOnlyIn, deadlineOf, beginTx, orphaned, endOf, endTx, isOpenOf, canCommit}
 use Rattle.rules.specs.States.{stateOf, nextOf, inState, entered}
-use Rattle.rules.specs.Tx.{openOf, closeOf, beginOf, goOn, commitCode, commitOf, rollbackOf, infoOf, commitReturnOf, controlOf, timeoutOf}
+use Rattle.rules.specs.Tx.{openOf, closeOf, beginOf, goOn, commitOf, rollbackOf, infoOf, commitReturnOf, controlOf, timeoutOf}
+use Rattle.rules.specs.Votes.{reportOn, reportIs, reportOf, decides, someCommitted, someRolledBack, voteCode, codeAfter, commitCode, allCanStart}
 use Rattle.rules.specs.Services.{inSet, offers, countTo, offered, withService, offersNow, advertiseOf, unadvertiseOf}
 use Rattle.rules.specs.Requests.{linkTx, askLink, requestOf, connectOf, isIdle, fits, dispatchEvent, dispatched}
 use Rattle.rules.specs.Requests.{dispatchOf}
@@ -23,7 +24,7 @@ use Rattle.rules.specs.Conversations.{originatorEnd, serverEnd, anyEnd, hearsDi
 use Rattle.rules.specs.Conversations.{tellsReturn, sendOn, sendOf, carriesGrant, received, receiveOn, receiveOf, disconnectedAt, disconnectOf}
 use Rattle.rules.specs.Return.{plainOutcome, outcomeOf, unreadAfter, closeEnd, rollbackOnlyBy, closeOwn, endOwn, rollbackOnlyServed}
 use Rattle.rules.specs.Return.{servesNone, endingOf, handBack, leave, returnWith, returnOf, diedOut, terminateOf}
-use Rattle.rules.specs.Sound.{linksGood, worksFor, partyGood, partiesGood, sound}
+use Rattle.rules.specs.Sound.{reportsGood, linksGood, worksFor, partyGood, partiesGood, sound}
 use Rattle.rules.specs.Step.{ruleOf, laterOf, answeredTo, turnedDown, callOf}
 use Rattle.rules.specs.Run
 use Rattle.rules.specs.Run.{Listed, callAt, ranOf, answersOf, listOf}
@@ -52,14 +53,15 @@ unfolding right
 answered-right rs h = record { runs = same-code _ _ (and-l _ _ h); answers = same-places _ _ (and-r (sameCode (run rs .code) (pos 0)) _ h) }
 
 pub real-answered : (k : ℕ) → k < length real → Answered (getD real k [])
-unfolding every right samePlaces pick same noBegin firstOf anyOf collect blanks numbered owns ownEnd linkOf changed goneOf removed servedTx txOf ended
-    expired isOwner rollbackOnlyIn deadlineOf beginTx orphaned endOf endTx isOpenOf canCommit stateOf nextOf inState entered openOf closeOf beginOf
-    goOn commitCode commitOf rollbackOf infoOf commitReturnOf controlOf timeoutOf inSet offers countTo offered withService offersNow advertiseOf
-    unadvertiseOf linkTx askLink requestOf connectOf isIdle fits dispatchEvent dispatched dispatchOf requestEnd outcomeCode fetched fetchOne expiredEnd repliedEnd fetchAny
-    fetchOf cancelled cancelOf originatorEnd serverEnd anyEnd hearsDisconnect hearsReturn endSide isSender tellsDisconnect tellsReturn sendOn sendOf carriesGrant
-    received receiveOn receiveOf disconnectedAt disconnectOf plainOutcome outcomeOf unreadAfter closeEnd rollbackOnlyBy closeOwn endOwn
-    rollbackOnlyServed servesNone endingOf handBack leave returnWith returnOf diedOut terminateOf linksGood worksFor partyGood partiesGood sound
-    ruleOf laterOf answeredTo turnedDown callOf callAt Run.placesOf ranOf answersOf listOf
+unfolding every right samePlaces pick same noBegin firstOf anyOf collect blanks numbered owns ownEnd linkOf changed goneOf removed servedTx txOf
+    ended expired isOwner rollbackOnlyIn deadlineOf beginTx orphaned endOf endTx isOpenOf canCommit stateOf nextOf inState entered openOf closeOf
+    beginOf goOn reportOn reportIs reportOf decides someCommitted someRolledBack voteCode codeAfter commitCode allCanStart commitOf rollbackOf
+    infoOf commitReturnOf controlOf timeoutOf inSet offers countTo offered withService offersNow advertiseOf unadvertiseOf linkTx askLink requestOf
+    connectOf isIdle fits dispatchEvent dispatched dispatchOf requestEnd outcomeCode fetched fetchOne expiredEnd repliedEnd fetchAny fetchOf
+    cancelled cancelOf originatorEnd serverEnd anyEnd hearsDisconnect hearsReturn endSide isSender tellsDisconnect tellsReturn sendOn sendOf
+    carriesGrant received receiveOn receiveOf disconnectedAt disconnectOf plainOutcome outcomeOf unreadAfter closeEnd rollbackOnlyBy closeOwn endOwn
+    rollbackOnlyServed servesNone endingOf handBack leave returnWith returnOf diedOut terminateOf reportsGood linksGood worksFor partyGood
+    partiesGood sound ruleOf laterOf answeredTo turnedDown callOf callAt Run.placesOf ranOf answersOf listOf
 real-answered k h = answered-right (getD real k []) (entry right [] real refl k h)
 
 -- a service that dies after its caller has disconnected, before it, and where the caller learns of it

@@ -5,10 +5,10 @@
 use mathlib.Core.List.{List, [], _∷_}
 use lib.IntN.{pos, negsuc}
 use Rattle.histories.proofs.Rows.{Row, row, sender, commit, Spoilt, breaks, txOpen, txBegin, txCommit, txSetTimeout, tpadvertise}
-use Rattle.histories.proofs.Rows.{tpacall, tpconnect, dispatch, tpgetrply, tpsend, tprecv, tpdiscon, tpreturn, terminate}
+use Rattle.histories.proofs.Rows.{tpacall, tpconnect, dispatch, tpgetrply, tpsend, tprecv, tpdiscon, tpreturn, terminate, report}
 
 -- ---- the commit
--- a commit gives −2 whatever the record shows: rolled back with nothing against it
+-- a commit that would be committed gives −2: rolled back with nothing against it
 abbrev pub alwaysRollsBack : List Row
 alwaysRollsBack =
     row 0 0 txOpen 0 0 0 (pos 0) 0 0 0 0 0
@@ -74,7 +74,7 @@ clockMovedByUnknownKind =
     row 0 0 txOpen 0 0 0 (pos 0) 0 0 0 0 0
     ∷ row 0 0 txSetTimeout 1 0 0 (pos 0) 0 0 0 0 0
     ∷ row 0 0 txBegin 0 0 0 (pos 0) 0 0 0 0 1
-    ∷ row 1 0 22 0 0 0 (pos 20) 0 0 0 0 0
+    ∷ row 1 0 23 0 0 0 (pos 20) 0 0 0 0 0
     ∷ row 0 0 txCommit 0 0 0 (negsuc 1) 0 0 0 0 0
     ∷ []
 
@@ -271,6 +271,64 @@ turnWithoutEvent =
     ∷ row 0 1 tpsend 1 0 0 (pos 0) 0 0 0 0 0
     ∷ []
 
+-- ---- the managers' reports
+-- a veto neither decides nor counts: committed with one
+abbrev pub vetoCountsForNothing : List Row
+vetoCountsForNothing =
+    row 0 0 txOpen 0 0 0 (pos 0) 0 0 0 0 0
+    ∷ row 0 0 txBegin 0 0 0 (pos 0) 0 0 0 0 1
+    ∷ row 0 0 report 0 2 0 (pos 0) 0 0 0 0 1
+    ∷ row 0 0 txCommit 0 0 0 (pos 0) 0 0 0 0 0
+    ∷ []
+
+-- a hazard gives 0: committed with a standing report against it
+abbrev pub hazardIsGood : List Row
+hazardIsGood =
+    row 0 0 txOpen 0 0 0 (pos 0) 0 0 0 0 0
+    ∷ row 0 0 txBegin 0 0 0 (pos 0) 0 0 0 0 1
+    ∷ row 0 0 report 0 6 0 (pos 0) 0 0 0 0 1
+    ∷ row 0 0 txCommit 0 0 0 (pos 0) 0 0 0 0 0
+    ∷ []
+
+-- all rolled back gives 0 after a commit decision
+abbrev pub rolledBackCommits : List Row
+rolledBackCommits =
+    row 0 0 txOpen 0 0 0 (pos 0) 0 0 0 0 0
+    ∷ row 0 0 txBegin 0 0 0 (pos 0) 0 0 0 0 1
+    ∷ row 0 0 report 0 4 0 (pos 0) 0 0 0 0 1
+    ∷ row 0 0 txCommit 0 0 0 (pos 0) 0 0 0 0 0
+    ∷ []
+
+-- a later report does not replace an earlier one: committed with a veto
+abbrev pub firstReportStands : List Row
+firstReportStands =
+    row 0 0 txOpen 0 0 0 (pos 0) 0 0 0 0 0
+    ∷ row 0 0 txBegin 0 0 0 (pos 0) 0 0 0 0 1
+    ∷ row 0 0 report 0 0 0 (pos 0) 0 0 0 0 1
+    ∷ row 0 0 report 0 2 0 (pos 0) 0 0 0 0 1
+    ∷ row 0 0 txCommit 0 0 0 (pos 0) 0 0 0 0 0
+    ∷ []
+
+-- reports outlive their transaction: the next one is rolled back by a veto of the last
+abbrev pub reportsStay : List Row
+reportsStay =
+    row 0 0 txOpen 0 0 0 (pos 0) 0 0 0 0 0
+    ∷ row 0 0 txBegin 0 0 0 (pos 0) 0 0 0 0 1
+    ∷ row 0 0 report 0 2 0 (pos 0) 0 0 0 0 1
+    ∷ row 0 0 txCommit 0 0 0 (negsuc 1) 0 0 0 0 0
+    ∷ row 0 0 txBegin 0 0 0 (pos 0) 0 0 0 0 2
+    ∷ row 0 0 txCommit 0 0 0 (negsuc 1) 0 0 0 0 0
+    ∷ []
+
+-- a report is taken from a party that is not the owner: a veto before there is a transaction rolls the next one back
+abbrev pub anyoneReports : List Row
+anyoneReports =
+    row 0 0 txOpen 0 0 0 (pos 0) 0 0 0 0 0
+    ∷ row 0 0 report 0 2 0 (pos 0) 0 0 0 0 0
+    ∷ row 0 0 txBegin 0 0 0 (pos 0) 0 0 0 0 1
+    ∷ row 0 0 txCommit 0 0 0 (negsuc 1) 0 0 0 0 0
+    ∷ []
+
 -- ---- the table
 abbrev pub faulty : List Spoilt
 faulty =
@@ -296,4 +354,10 @@ faulty =
     ∷ breaks commit transactionNumbersReused
     ∷ breaks sender newEndSendsEarly
     ∷ breaks sender turnWithoutEvent
+    ∷ breaks commit vetoCountsForNothing
+    ∷ breaks commit hazardIsGood
+    ∷ breaks commit rolledBackCommits
+    ∷ breaks commit firstReportStands
+    ∷ breaks commit reportsStay
+    ∷ breaks commit anyoneReports
     ∷ []

@@ -4,6 +4,7 @@ pub mod Conversations
 pub mod Deadlines
 pub mod Services
 pub mod Replies
+pub mod Votes
 pub mod Owners
 pub mod Faults
 pub mod Verdicts

@@ -176,6 +176,9 @@ tpreturn = 20
 abbrev pub terminate : ℕ
 terminate = 21
 
+abbrev pub report : ℕ
+report = 22
+
 -- a number that is no kind
 abbrev pub noKind : ℕ
 noKind = 4294967295

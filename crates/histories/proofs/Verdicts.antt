@@ -9,7 +9,7 @@ use lib.ListN.{length, getD}
 use Rattle.rules.specs.History.{some, ofKind, by, answeredBy, withValue, withEvent, past21, accepted, replied, linkOn, on, isSend, differentEnds}
 use Rattle.rules.specs.History.{givenSendOnly, sendsApart, endsIn, upToStart, startedBy, shownOwner, latestTx, isOwnersCommit, committed, flag2}
 use Rattle.rules.specs.History.{makes, isLinkOf, serves, failedEnd, disconnect, greatestClock, shownTimeout, timeoutAtStart, due, deadlinePassed}
-use Rattle.rules.specs.History.{finishes, unfinished, reasonAgainst, othersAtWork, senderRule, commitRule, aloneRule, holds, firstCall, firstAnswer}
+use Rattle.rules.specs.History.{finishes, unfinished, reportsOn, opposes, opposed, standsAgainst, reasonAgainst, othersAtWork, senderRule, commitRule, aloneRule, holds, firstCall, firstAnswer}
 use Rattle.rules.specs.History.{thenCalls, thenList}
 use Rattle.rules.proofs.Tables.{every, entry}
 use Rattle.histories.proofs.Rows.{Row, eventsOf, commit, onlyBreaks, Spoilt, breaks}
@@ -18,17 +18,18 @@ use Rattle.histories.proofs.Conversations
 use Rattle.histories.proofs.Deadlines
 use Rattle.histories.proofs.Services
 use Rattle.histories.proofs.Replies
+use Rattle.histories.proofs.Votes
 use Rattle.histories.proofs.Owners
 use Rattle.histories.proofs.Faults
 
 abbrev pub real : List (List Row)
-real = Deaths.real ++ Conversations.real ++ Deadlines.real ++ Services.real ++ Replies.real ++ Owners.real
+real = Deaths.real ++ Conversations.real ++ Deadlines.real ++ Services.real ++ Replies.real ++ Votes.real ++ Owners.real
 
 abbrev pub spoilt : List Spoilt
-spoilt = Deaths.spoilt ++ Conversations.spoilt ++ Deadlines.spoilt ++ Services.spoilt ++ Replies.spoilt ++ Owners.spoilt
+spoilt = Deaths.spoilt ++ Conversations.spoilt ++ Deadlines.spoilt ++ Services.spoilt ++ Replies.spoilt ++ Votes.spoilt ++ Owners.spoilt
 
 abbrev pub harmless : List (List Row)
-harmless = Deaths.harmless ++ Conversations.harmless ++ Deadlines.harmless ++ Services.harmless ++ Replies.harmless ++ Owners.harmless
+harmless = Deaths.harmless ++ Conversations.harmless ++ Deadlines.harmless ++ Services.harmless ++ Replies.harmless ++ Votes.harmless ++ Owners.harmless
 
 -- the statement holds of it
 abbrev pub kept : List Row → Bool
@@ -42,7 +43,7 @@ refuted s = not (holds (eventsOf (s .rows))) && onlyBreaks (s .rule) (eventsOf (
 computed : (every kept real ≡ true) × (every kept harmless ≡ true) × (every refuted spoilt ≡ true) × (every refuted Faults.faulty ≡ true)
 unfolding every some ofKind by answeredBy withValue withEvent past21 accepted replied linkOn on isSend differentEnds givenSendOnly sendsApart endsIn upToStart
     startedBy shownOwner latestTx isOwnersCommit committed flag2 makes isLinkOf serves failedEnd disconnect greatestClock shownTimeout timeoutAtStart
-    due deadlinePassed finishes unfinished reasonAgainst othersAtWork senderRule commitRule aloneRule holds firstCall firstAnswer thenCalls thenList
+    due deadlinePassed finishes unfinished reportsOn opposes opposed standsAgainst reasonAgainst othersAtWork senderRule commitRule aloneRule holds firstCall firstAnswer thenCalls thenList
 computed = (refl, refl, refl, refl)
 
 pub real-holds : (k : ℕ) → k < length real → kept (getD real k []) ≡ true
