@@ -17,6 +17,8 @@ faults! {
     AlwaysRollsBack,
     AnyFetchLeavesLink,
     AnyFetchNamesNoLink,
+    AnyoneReports,
+    CantStartStarts,
     ClockGoesBack,
     ClockMovedByUnknownKind,
     ClockMovedByUnknownParty,
@@ -30,13 +32,20 @@ faults! {
     FailMarksNothing,
     FailedReturnMarksNothing,
     FetchLeavesLink,
+    FirstReportStands,
+    HazardIsGood,
     LinkNumbersReused,
     NewEndSendsEarly,
     NonOwnerCommits,
+    ReportsStay,
     RollbackOnlyLeavesNoMark,
+    RolledBackCommits,
+    SomeCantStart,
     SuccessWithOpenEnds,
     TransactionNumbersReused,
     TurnWithoutEvent,
+    VetoCountsForNothing,
+    VetoDecidesNothing,
 }
 
 /// Whether the fault is on.
@@ -124,7 +133,7 @@ mod planted {
     }
 
     /// The kinds by their names in `crates/histories/proofs/Rows.antt`.
-    pub const KIND_NAMES: [(u32, &str); 19] = [
+    pub const KIND_NAMES: [(u32, &str); 20] = [
         (1, "txOpen"),
         (2, "txClose"),
         (3, "txBegin"),
@@ -144,6 +153,7 @@ mod planted {
         (19, "tpdiscon"),
         (20, "tpreturn"),
         (21, "terminate"),
+        (22, "report"),
     ];
 }
 
@@ -224,6 +234,14 @@ mod tests {
         assert_eq!(edits, faults.collect::<Vec<_>>());
     }
 
+    /// No list shows these to the statement; an answer tells each.
+    const NO_HISTORY: [Fault; 4] = [
+        Fault::CantStartStarts,
+        Fault::NonOwnerCommits,
+        Fault::SomeCantStart,
+        Fault::VetoDecidesNothing,
+    ];
+
     /// Each stored history is what the fault answers, and breaks the rule that
     /// the table names; the right answers to its calls differ and break none.
     #[test]
@@ -232,7 +250,7 @@ mod tests {
         for &fault in Fault::ALL {
             let rows = rows(&stored, fault);
             let name = fault.history_name();
-            assert_eq!(rows.is_empty(), fault == Fault::NonOwnerCommits, "{name}");
+            assert_eq!(rows.is_empty(), NO_HISTORY.contains(&fault), "{name}");
             if rows.is_empty() {
                 continue;
             }
@@ -254,17 +272,28 @@ mod tests {
         }
     }
 
-    /// A server's commit: no history shows it, but the answer is another, also
-    /// in a stored listing.
-    #[test]
-    fn non_owner_commits() {
-        let file = read(format!("{CRATES}/drill_cases/data/case-02")).unwrap();
+    /// The first answer of a stored file that the fault changes, right and
+    /// wrong; the wrong ones break nothing.
+    fn first_told(file: &str, fault: Fault) -> (usize, u32, i64, i64) {
+        let file = read(format!("{CRATES}/drill_cases/data/{file}")).unwrap();
         let calls = read_calls(&file).0;
         let right = answered(None, &calls);
-        let wrong = answered(Some(Fault::NonOwnerCommits), &calls);
-        let at = (0..calls.len()).find(|&at| right[at] != wrong[at]).unwrap();
-        assert_eq!((at, right[at].0[2]), (90, 4));
-        assert_eq!((right[at].1[0], wrong[at].1[0]), (-5, 0));
+        let wrong = answered(Some(fault), &calls);
         assert_eq!(check(&wrong), None);
+        let at = (0..calls.len()).find(|&at| right[at] != wrong[at]).unwrap();
+        (at + 1, calls[at][2], right[at].1[0], wrong[at].1[0])
+    }
+
+    /// What no history shows, a stored listing does.
+    #[test]
+    fn told_by_a_listing() {
+        let told = first_told("case-02", Fault::NonOwnerCommits);
+        assert_eq!(told, (91, 4, -5, 0));
+        let told = first_told("case-68", Fault::CantStartStarts);
+        assert_eq!(told, (68, 4, -100, 0));
+        let told = first_told("case-71", Fault::SomeCantStart);
+        assert_eq!(told, (79, 4, -102, -2));
+        let told = first_told("case-68", Fault::VetoDecidesNothing);
+        assert_eq!(told, (43, 4, -2, -3));
     }
 }

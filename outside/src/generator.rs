@@ -3,7 +3,8 @@
 
 use crate::kinds::{row, Meaning, Mood, Place, Row, Tried, KINDS, LAST_KIND};
 use crate::monitor::{
-    step, Cut, End, Kind, Link, Monitor, Party, State, LAST_NUMBER, LINKS, LONGEST_TIMEOUT, PARTIES,
+    step, Cut, End, Kind, Link, Monitor, Party, State, HEURISTIC_COMMITTED, HEURISTIC_HAZARD,
+    LAST_NUMBER, LINKS, LONGEST_TIMEOUT, MANAGERS, PARTIES, PREPARED, READ_ONLY,
 };
 
 /// A small generator of numbers (xorshift64*), from a seed alone.
@@ -281,20 +282,25 @@ impl Generator {
         } else {
             kind
         };
-        let [meaning, of_b, _] = row(kind).map_or([Meaning::Nothing; 3], |row| row.arguments);
+        let [meaning, of_b, of_c] = row(kind).map_or([Meaning::Nothing; 3], |row| row.arguments);
         let a = match (meaning, self.rng.below(6)) {
             (_, 0) => self.rng.next_u32(),
             (meaning, _) if meaning.is_service() => self.service(),
             (Meaning::Link, _) => self.link(m),
             (Meaning::Timeout, _) => self.rng.pick(&[0, 1, LONGEST_TIMEOUT, LONGEST_TIMEOUT + 1]),
+            (Meaning::Manager, _) => self.rng.below(MANAGERS as u32 + 1),
             _ => self.rng.below(4),
         };
         let b = match (of_b, self.rng.below(8)) {
             (_, 0) => self.rng.next_u32(),
             (Meaning::AnyReply, _) => self.rng.below(3),
+            (Meaning::Vote, _) => self.rng.below(HEURISTIC_HAZARD + 2),
             _ => self.rng.below(16),
         };
-        let c = self.token();
+        let c = match of_c {
+            Meaning::CantStart => self.rng.below(3),
+            _ => self.token(),
+        };
         [party, kind, a, b, c]
     }
 
@@ -458,6 +464,27 @@ impl Generator {
                 }
             }
             Meaning::Token => self.token(),
+            Meaning::Manager => match self.rng.below(40) {
+                0 => self.rng.pick(&[MANAGERS as u32, 5, view.other]),
+                1..=25 => self.rng.below(2),
+                _ => self.rng.below(MANAGERS as u32),
+            },
+            // Mostly in favour, so that commits come; where the transaction can
+            // only be rolled back, often committed by the manager itself.
+            Meaning::Vote if view.party.doomed && self.rng.once_in(3) => HEURISTIC_COMMITTED,
+            Meaning::Vote => match self.rng.below(40) {
+                0 => self.rng.pick(&[HEURISTIC_HAZARD + 1, 8, view.other]),
+                1..=3 => self.rng.below(HEURISTIC_HAZARD + 1),
+                4..=11 if !booking => self.rng.below(HEURISTIC_HAZARD + 1),
+                4..=17 => HEURISTIC_COMMITTED,
+                18..=23 => READ_ONLY,
+                _ => PREPARED,
+            },
+            Meaning::CantStart => match self.rng.below(40) {
+                0 => self.rng.pick(&[2, view.other]),
+                1..=10 => 1,
+                _ => 0,
+            },
         }
     }
 
@@ -524,6 +551,11 @@ impl Generator {
                 }
             }
             21 if party.served != 0 => Place::Serving,
+            22 if party.owned != 0 && no_ends => match (party.reports, view.heard) {
+                ([0, 0, 0, 0], true) => Place::Heard,
+                ([0, 0, 0, 0], false) => Place::Fit,
+                _ => Place::More,
+            },
             _ => Place::Unfit,
         }
     }
@@ -697,6 +729,11 @@ pub fn spent(seed: u64, give: Give) {
         s.now(party, 12, 64, 2, 0);
         s.now(party, 12, 64, 3, 0);
         s.now(party, 13, 64, 10, 0);
+        // Of two some manager can't start either, which is told once.
+        if party == 12 || party == 14 {
+            let vote = generator.rng.below(HEURISTIC_HAZARD + 1);
+            s.now(party, 22, generator.rng.below(4), vote, 1);
+        }
         let end = generator.rng.pick(&[4, 5]);
         let end = match party {
             10 => 4,

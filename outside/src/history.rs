@@ -248,6 +248,30 @@ fn has_unfinished(before: &[Entry], links: &[(i64, u32)]) -> bool {
     })
 }
 
+/// "standing is each manager's last accepted 22 with an answer ending in T"
+/// (R-4). Gives manager and b of each, the latest first.
+fn standing_reports(before: &[Entry], t: i64) -> Vec<(u32, u32)> {
+    let mut standing: Vec<(u32, u32)> = Vec::new();
+    for entry in before.iter().rev() {
+        let [_, _, kind, a, b, _] = entry.0;
+        if kind == 22
+            && is_accepted(entry)
+            && ending(entry) == t
+            && standing.iter().all(|&(manager, _)| manager != a)
+        {
+            standing.push((a, b));
+        }
+    }
+    standing
+}
+
+/// "a standing report of veto, rolled back, mixed or hazard" (R-4)
+fn has_report_against(before: &[Entry], t: i64) -> bool {
+    standing_reports(before, t)
+        .iter()
+        .any(|&(_, b)| matches!(b, 2 | 4 | 5 | 6))
+}
+
 /// "At work in T: serves a link of T at the commit. Other parties are all but
 /// T's owner." Gives another party at work.
 fn other_at_work(before: &[Entry], links: &[(i64, u32)], owner: u32) -> Option<u32> {
@@ -267,6 +291,7 @@ pub struct Commit {
     pub disconnect: bool,
     pub passed_deadline: bool,
     pub unfinished: bool,
+    pub report_against: bool,
     /// Another party at work in the transaction.
     pub at_work: Option<u32>,
     /// The links of the transaction and their originators.
@@ -285,6 +310,7 @@ pub fn commit(history: &[Entry], at: usize) -> Option<Commit> {
         disconnect: has_disconnect(before, &links),
         passed_deadline: has_passed_deadline(history, at, t),
         unfinished: has_unfinished(before, &links),
+        report_against: has_report_against(before, t),
         at_work: other_at_work(before, &links, party(&history[at])),
         links,
     })
@@ -294,10 +320,15 @@ pub fn commit(history: &[Entry], at: usize) -> Option<Commit> {
 /// when the calls and answers up to it show no failed service end, no
 /// disconnect, no passed deadline and no unfinished link of that transaction.
 /// And whenever one was so answered, no other party was then still at work in
-/// that transaction."
+/// that transaction." It "now also needs no standing report of veto, rolled
+/// back, mixed or hazard" (R-4).
 fn commit_rules(history: &[Entry], at: usize) -> Option<Broken> {
     let found = commit(history, at)?;
-    let spoiled = found.failed_end || found.disconnect || found.passed_deadline || found.unfinished;
+    let spoiled = found.failed_end
+        || found.disconnect
+        || found.passed_deadline
+        || found.unfinished
+        || found.report_against;
     match (found.committed, spoiled) {
         (true, true) => Some(Broken::WronglyCommitted { commit: at }),
         (false, false) => Some(Broken::WronglyRolledBack { commit: at }),
@@ -499,5 +530,160 @@ mod tests {
         assert_eq!(check(&h), None);
         h[8].1[0] = 0;
         assert_eq!(check(&h), Some(Broken::WronglyCommitted { commit: 8 }));
+    }
+
+    /// Party 0 begins and reports b of manager 1, then commits.
+    fn reported(reports: &[[u32; 3]]) -> Vec<Entry> {
+        let mut calls = vec![[0, 0, 1, 0, 0, 0], [0, 0, 3, 0, 0, 0]];
+        calls.extend(reports.iter().map(|&[a, b, c]| [0, 0, 22, a, b, c]));
+        calls.push([0, 0, 4, 0, 0, 0]);
+        history(&calls)
+    }
+
+    /// A veto, rolled back, mixed or hazard speaks against a commit; what is
+    /// prepared, read-only or committed does not.
+    #[test]
+    fn reports_against() {
+        for (b, code) in [(0, 0), (1, 0), (2, -2), (3, 0), (4, -2), (5, -3), (6, -4)] {
+            for c in [0, 1] {
+                let mut h = reported(&[[1, b, c]]);
+                assert_eq!(standing_reports(&h, 1), [(1, b)]);
+                assert_eq!(h[3].1[0], code);
+                // Without the reason a code other than 0 would be wrong here.
+                assert_eq!(check(&h), None, "{b}");
+                let against = matches!(b, 2 | 4 | 5 | 6);
+                assert_eq!(commit(&h, 3).unwrap().report_against, against);
+                for code in [0, -100, -2, -3, -4, -9, -102, -103, -104, -109] {
+                    h[3].1[0] = code;
+                    let found = match (matches!(code, 0 | -100), against) {
+                        (true, true) => Some(Broken::WronglyCommitted { commit: 3 }),
+                        (false, false) => Some(Broken::WronglyRolledBack { commit: 3 }),
+                        _ => None,
+                    };
+                    assert_eq!(check(&h), found, "{b} {code}");
+                }
+            }
+        }
+    }
+
+    /// A manager's last report is the one that stands.
+    #[test]
+    fn last_report_stands() {
+        for bad in [2, 4, 5, 6] {
+            for good in [0, 1, 3] {
+                // Any report, or the first one, would speak against this.
+                let mut h = reported(&[[1, bad, 0], [1, good, 0]]);
+                assert_eq!((h[4].1[0], check(&h)), (0, None));
+                h[4].1[0] = -2;
+                assert_eq!(check(&h), Some(Broken::WronglyRolledBack { commit: 4 }));
+
+                let mut h = reported(&[[1, good, 0], [1, bad, 0]]);
+                assert_eq!(check(&h), None);
+                h[4].1[0] = 0;
+                assert_eq!(check(&h), Some(Broken::WronglyCommitted { commit: 4 }));
+
+                // Another manager's report replaces none.
+                let mut h = reported(&[[1, bad, 0], [2, good, 0]]);
+                assert_eq!(standing_reports(&h, 1), [(2, good), (1, bad)]);
+                assert_eq!(check(&h), None);
+                h[4].1[0] = 0;
+                assert_eq!(check(&h), Some(Broken::WronglyCommitted { commit: 4 }));
+            }
+        }
+    }
+
+    /// A refused report is none: neither against nor in place of another.
+    #[test]
+    fn refused_reports_do_not_stand() {
+        let mut h = reported(&[[1, 2, 2], [4, 2, 0], [1, 0, 0]]);
+        assert_eq!([code(&h[2]), code(&h[3]), code(&h[4])], [34, 34, 0]);
+        assert_eq!((h[5].1[0], check(&h)), (0, None));
+        h[2].1[0] = 0;
+        h.swap(2, 4);
+        assert_eq!(check(&h), Some(Broken::WronglyCommitted { commit: 5 }));
+
+        let mut h = reported(&[[1, 2, 0], [1, 0, 2]]);
+        assert_eq!((code(&h[3]), h[4].1[0], check(&h)), (34, -2, None));
+        h[4].1[0] = 0;
+        assert_eq!(check(&h), Some(Broken::WronglyCommitted { commit: 4 }));
+
+        // A server's, though its answer ends in T.
+        let h = history(&[
+            [0, 0, 1, 0, 0, 0],
+            [0, 1, 1, 0, 0, 0],
+            [0, 1, 10, 5, 0, 0],
+            [0, 0, 3, 0, 0, 0],
+            [0, 0, 12, 5, 0, 7],
+            [0, 1, 14, 0, 0, 0],
+            [0, 1, 22, 0, 2, 0],
+            [0, 1, 20, 1, 0, 6],
+            [0, 0, 15, 1, 0, 0],
+            [0, 0, 4, 0, 0, 0],
+        ]);
+        assert_eq!(h[6].1, [23, 0, 0, 0, 0, 1]);
+        assert_eq!((h[9].1[0], check(&h)), (0, None));
+    }
+
+    /// Only reports that end in T count: not one of an earlier transaction, nor
+    /// another party's on its own, nor one after the commit.
+    #[test]
+    fn reports_of_other_transactions() {
+        let mut h = history(&[
+            [0, 0, 1, 0, 0, 0],
+            [0, 0, 8, 1, 0, 0],
+            [0, 1, 1, 0, 0, 0],
+            [0, 0, 3, 0, 0, 0],
+            [0, 1, 3, 0, 0, 0],
+            [0, 1, 22, 0, 2, 0],
+            [0, 0, 4, 0, 0, 0],
+            [0, 0, 22, 0, 2, 0],
+            [0, 0, 4, 0, 0, 0],
+            [0, 0, 4, 0, 0, 0],
+            [0, 1, 4, 0, 0, 0],
+        ]);
+        let codes: Vec<i64> = [6, 8, 9, 10].map(|at| code(&h[at])).into();
+        assert_eq!(codes, [0, -2, 0, -2]);
+        assert_eq!(standing_reports(&h, 1), []);
+        assert_eq!(standing_reports(&h, 2), [(0, 2)]);
+        assert_eq!(standing_reports(&h, 3), [(0, 2)]);
+        assert_eq!(check(&h), None);
+        for (at, other) in [(6, -2), (9, -2)] {
+            let mut h = h.clone();
+            h[at].1[0] = other;
+            assert_eq!(check(&h), Some(Broken::WronglyRolledBack { commit: at }));
+        }
+        for at in [8, 10] {
+            h[at].1[0] = 0;
+            assert_eq!(check(&h), Some(Broken::WronglyCommitted { commit: at }));
+            h[at].1[0] = -2;
+        }
+        let mut h = reported(&[[1, 0, 0]]);
+        h.push(([0, 0, 22, 1, 2, 0], [0, 0, 0, 0, 0, 1]));
+        assert_eq!((h[3].1[0], check(&h)), (0, None));
+    }
+
+    /// Another reason is one beside the managers': all committed is not
+    /// "committed" after the other decision, and -100 is, where one can't start.
+    #[test]
+    fn reports_and_other_reasons() {
+        let calls = [
+            [0, 0, 1, 0, 0, 0],
+            [0, 0, 9, 10, 0, 0],
+            [0, 0, 8, 1, 0, 0],
+            [0, 0, 3, 0, 0, 0],
+            [0, 0, 22, 0, 3, 1],
+            [9, 0, 4, 0, 0, 0],
+        ];
+        let mut h = history(&calls);
+        assert_eq!((h[5].1[0], check(&h)), (-100, None));
+        h[5].1[0] = -109;
+        assert_eq!(check(&h), Some(Broken::WronglyRolledBack { commit: 5 }));
+
+        let mut calls = calls;
+        calls[5][0] = 10;
+        let mut h = history(&calls);
+        assert_eq!((h[5].1[0], check(&h)), (-109, None));
+        h[5].1[0] = -100;
+        assert_eq!(check(&h), Some(Broken::WronglyCommitted { commit: 5 }));
     }
 }

@@ -28,6 +28,12 @@ pub enum Meaning {
     /// How a service ends.
     Result,
     Token,
+    /// A resource manager.
+    Manager,
+    /// What it reports.
+    Vote,
+    /// 1 where it can't start a new transaction, else 0.
+    CantStart,
 }
 
 impl Meaning {
@@ -172,7 +178,7 @@ pub const KINDS: &[Row] = {
             word: "commit",
             weights: &[(Unfit, 1), (Late, 4), (Fit, 4), (Heard, 40)],
             moods: &[(Transactions, Fit, 20), (Transactions, Heard, 20)],
-            codes: &[0, -2, -5, -100, -102],
+            codes: &[0, -2, -3, -4, -5, -9, -100, -102, -103, -104, -109],
             ..PLAIN
         },
         Row {
@@ -328,6 +334,14 @@ pub const KINDS: &[Row] = {
             word: "fall",
             tried: Tried::SomeCaller,
             weights: &[(Unfit, 1), (Serving, 2)],
+            ..PLAIN
+        },
+        Row {
+            number: 22,
+            word: "report",
+            arguments: [Manager, Vote, CantStart],
+            weights: &[(Unfit, 1), (Fit, 4), (More, 3), (Heard, 20)],
+            codes: &[0, 23, 34],
             ..PLAIN
         },
     ]

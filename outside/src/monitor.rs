@@ -14,11 +14,24 @@ pub const LAST_NUMBER: u32 = 60_000;
 pub const OFFERED: u32 = 8;
 /// The longest timeout.
 pub const LONGEST_TIMEOUT: u32 = 2_147_483_647;
+/// How many resource managers report on a transaction.
+pub const MANAGERS: usize = 4;
+/// The greatest number of a report.
+pub const LAST_REPORT: u32 = 14;
 
 /// Outcomes of a service.
 pub const SUCCESS: u8 = 8;
 pub const FAIL: u8 = 4;
 pub const ERROR: u8 = 2;
+
+/// What a manager reports: b of kind 22, up to the last one.
+pub const PREPARED: u32 = 0;
+pub const READ_ONLY: u32 = 1;
+pub const VETO: u32 = 2;
+pub const HEURISTIC_COMMITTED: u32 = 3;
+pub const HEURISTIC_ROLLED_BACK: u32 = 4;
+pub const HEURISTIC_MIXED: u32 = 5;
+pub const HEURISTIC_HAZARD: u32 = 6;
 
 #[derive(Clone, Copy, Debug, PartialEq, Eq)]
 pub enum Kind {
@@ -62,6 +75,9 @@ pub struct Party {
     /// 0 unchained, 1 chained.
     pub control: u8,
     pub doomed: bool,
+    /// Each manager's report on the owned transaction: 0 none, 1 + b where the
+    /// manager can start a new transaction, 8 + b where it can't.
+    pub reports: [u32; MANAGERS],
 }
 
 impl Party {
@@ -75,6 +91,71 @@ impl Party {
             opened: false,
             control: 0,
             doomed: false,
+            reports: [0; MANAGERS],
+        }
+    }
+
+    /// The number of a report.
+    pub const fn report(b: u32, cant_start: bool) -> u32 {
+        if cant_start {
+            8 + b
+        } else {
+            1 + b
+        }
+    }
+
+    /// Whether some manager's report is b, whether it can start or not.
+    fn has_report(&self, b: u32) -> bool {
+        let found = [Party::report(b, false), Party::report(b, true)];
+        self.reports.iter().any(|report| found.contains(report))
+    }
+
+    fn has_veto(&self) -> bool {
+        self.has_report(VETO) && !is_on(Fault::VetoCountsForNothing)
+    }
+
+    /// Whether some manager's report says that it can't start.
+    fn cant_start(&self) -> bool {
+        let first = Party::report(PREPARED, true);
+        let last = match is_on(Fault::SomeCantStart) {
+            true => Party::report(HEURISTIC_COMMITTED, true),
+            false => Party::report(HEURISTIC_HAZARD, true),
+        };
+        self.reports
+            .iter()
+            .any(|report| (first..=last).contains(report))
+    }
+
+    /// The code of a commit, by the decision and the reports.
+    fn commit_code(&self, commits: bool) -> i64 {
+        // Prepared counts as the decision, a veto as rolled back.
+        let prepared = self.has_report(PREPARED);
+        let committed = self.has_report(HEURISTIC_COMMITTED) || prepared && commits;
+        let rolled_back =
+            self.has_report(HEURISTIC_ROLLED_BACK) || self.has_veto() || prepared && !commits;
+        if self.has_report(HEURISTIC_MIXED) || committed && rolled_back {
+            -3
+        } else if self.has_report(HEURISTIC_HAZARD) {
+            if is_on(Fault::HazardIsGood) {
+                0
+            } else {
+                -4
+            }
+        } else if committed {
+            if !commits {
+                -9
+            } else if is_on(Fault::AlwaysRollsBack) {
+                -2
+            } else {
+                0
+            }
+        } else if rolled_back && !is_on(Fault::RolledBackCommits)
+            || !commits
+            || is_on(Fault::AlwaysRollsBack)
+        {
+            -2
+        } else {
+            0
         }
     }
 
@@ -300,7 +381,9 @@ impl Monitor {
                 usize::from((link.state == State::Working) & (server.served == link.number));
         }
         before <= self.last_link
-            && self.parties.iter().all(|party| party.control <= 1)
+            && self.parties.iter().all(|party| {
+                party.control <= 1 && party.reports.into_iter().fold(0, u32::max) <= LAST_REPORT
+            })
             && self
                 .parties
                 .iter()
@@ -419,6 +502,9 @@ impl Monitor {
         party.owned = 0;
         party.deadline = 0;
         party.doomed = false;
+        if !is_on(Fault::ReportsStay) {
+            party.reports = [0; MANAGERS];
+        }
         self.end_links(ending);
     }
 
@@ -540,21 +626,25 @@ impl Monitor {
         } else {
             ask(self.owner(t) == Some(p), -5)?;
         }
-        let good = !commit
-            || !(self.parties[p].doomed && !is_on(Fault::CommitIgnoresRollbackOnly)
+        let mut code = 0;
+        if commit {
+            let party = &self.parties[p];
+            let commits = !(party.doomed && !is_on(Fault::CommitIgnoresRollbackOnly)
                 || self.is_expired(t) && !is_on(Fault::CommitIgnoresDeadline)
                 || self
                     .links()
                     .iter()
                     .any(|link| link.transaction == t && link.open)
                     && !is_on(Fault::CommitIgnoresOpenEnds)
-                || is_on(Fault::AlwaysRollsBack));
-        let mut code = if good { 0 } else { -2 };
+                || party.has_veto() && !is_on(Fault::VetoDecidesNothing));
+            code = party.commit_code(commits);
+        }
+        let cant_start = self.parties[p].cant_start() && !is_on(Fault::CantStartStarts);
         self.end_transaction(p);
         if is_on(Fault::NonOwnerCommits) && t == 0 {
             self.end_links(0);
         }
-        if self.parties[p].control == 1 && !self.begin_transaction(p) {
+        if self.parties[p].control == 1 && (cant_start || !self.begin_transaction(p)) {
             code -= 100;
         }
         Ok(Reply::code(code))
@@ -882,6 +972,20 @@ impl Monitor {
         Ok(Reply::value(if serving { u32::from(ERROR) } else { 0 }))
     }
 
+    // The resource managers' kind.
+
+    fn report(&mut self, p: usize, a: u32, b: u32, c: u32) -> Decision {
+        let owner = self.owner(self.transaction(p)) == Some(p);
+        let anyone = is_on(Fault::AnyoneReports) && a < MANAGERS as u32;
+        ask(owner || anyone, 23)?;
+        ask(a < MANAGERS as u32 && b <= HEURISTIC_HAZARD && c <= 1, 34)?;
+        let report = &mut self.parties[p].reports[a as usize];
+        if *report == 0 || !is_on(Fault::FirstReportStands) {
+            *report = Party::report(b, c == 1);
+        }
+        Ok(Reply::code(0))
+    }
+
     /// A call that is well-formed, on a sound record.
     fn decide(&mut self, p: usize, kind: u32, a: u32, b: u32, c: u32) -> Decision {
         if kind <= 9 {
@@ -909,14 +1013,15 @@ impl Monitor {
             18 => self.receive(p, a),
             19 => self.disconnect(p, a),
             20 => self.return_service(p, a, c),
-            _ => self.fall(p),
+            21 => self.fall(p),
+            _ => self.report(p, a, b, c),
         }
     }
 
     /// A call on a sound record: everything after question 19.
     pub(crate) fn step_sound(&mut self, call: [u32; 6]) -> [i64; 6] {
         let [clock, party, kind, a, b, c] = call;
-        if !(1..=21).contains(&kind) {
+        if !(1..=22).contains(&kind) {
             if is_on(Fault::ClockMovedByUnknownKind) {
                 self.clock = self.clock.max(clock);
             }
@@ -1351,8 +1456,8 @@ mod tests {
     fn order_of_first_questions() {
         let mut m = Monitor::fresh();
         assert_eq!(step(&mut m, [5, 16, 0, 0, 0, 0])[0], 20);
-        assert_eq!(step(&mut m, [5, 16, 22, 0, 0, 0])[0], 20);
-        assert_eq!(step(&mut m, [5, 16, 21, 0, 0, 0])[0], 21);
+        assert_eq!(step(&mut m, [5, 16, 23, 0, 0, 0])[0], 20);
+        assert_eq!(step(&mut m, [5, 16, 22, 0, 0, 0])[0], 21);
         assert_eq!(m.clock, 0);
     }
 
@@ -1426,5 +1531,540 @@ mod tests {
             answers[8..],
             [(26, 0, 59_999), (-102, 0, 0), (-100, 0, 0), (-6, 0, 0)]
         );
+    }
+
+    /// Party 0 in transaction 1, opened and unchained.
+    const BEGUN: [[u32; 6]; 2] = [[0, 0, 1, 0, 0, 0], [0, 0, 3, 0, 0, 0]];
+
+    /// Party 0 in transaction 1; its control, and whether the transaction is
+    /// doomed, by a conversation that it disconnects.
+    fn begun(control: u32, doomed: bool) -> Monitor {
+        let mut m = Monitor::fresh();
+        assert_eq!(codes(&mut m, &BEGUN), [0, 0]);
+        assert_eq!(step(&mut m, [0, 0, 8, control, 0, 0])[0], 0);
+        if doomed {
+            let calls = [
+                [0, 9, 10, 64, 0, 0],
+                [0, 0, 13, 64, 4, 0],
+                [0, 0, 19, 1, 0, 0],
+            ];
+            assert_eq!(codes(&mut m, &calls), [0, 0, 0]);
+        }
+        m
+    }
+
+    /// Party 0's report of manager a.
+    fn report(m: &mut Monitor, a: u32, b: u32, c: u32) {
+        assert_eq!(step(m, [0, 0, 22, a, b, c])[0], 0, "{a} {b} {c}");
+    }
+
+    /// A report is answered with zeros and T and stands in the caller's record;
+    /// a later one of the same manager replaces it.
+    #[test]
+    fn reports() {
+        let mut m = drill(&[
+            ([0, 2, 1, 0, 0, 0], [0, 0, 0, 0, 0, 0]),
+            ([0, 2, 3, 0, 0, 0], [0, 0, 0, 0, 0, 1]),
+            ([0, 5, 1, 0, 0, 0], [0, 0, 0, 0, 0, 0]),
+            ([0, 5, 3, 0, 0, 0], [0, 0, 0, 0, 0, 2]),
+            ([0, 5, 22, 0, 0, 0], [0, 0, 0, 0, 0, 2]),
+            ([0, 5, 22, 1, 6, 0], [0, 0, 0, 0, 0, 2]),
+            ([0, 5, 22, 2, 0, 1], [0, 0, 0, 0, 0, 2]),
+            ([0, 5, 22, 3, 6, 1], [0, 0, 0, 0, 0, 2]),
+            ([0, 2, 22, 3, 2, 0], [0, 0, 0, 0, 0, 1]),
+        ]);
+        assert_eq!(m.parties[5].reports, [1, 7, 8, 14]);
+        assert_eq!(m.parties[2].reports, [0, 0, 0, 3]);
+        for (b, c, number) in [(2, 1, 10), (2, 0, 3), (0, 0, 1)] {
+            assert_eq!(step(&mut m, [0, 5, 22, 1, b, c]), [0, 0, 0, 0, 0, 2]);
+            assert_eq!(m.parties[5].reports, [1, number, 8, 14]);
+        }
+        // Nothing else is changed.
+        let mut before = m.clone();
+        step(&mut m, [7, 5, 22, 0, 4, 1]);
+        before.clock = 7;
+        before.parties[5].reports[0] = 12;
+        assert!(equal_with_tokens(&m, &before));
+    }
+
+    /// Each b, manager and c is kept by its number.
+    #[test]
+    fn numbers_of_reports() {
+        for a in 0..4 {
+            for b in 0..7 {
+                let mut m = begun(0, false);
+                report(&mut m, a, b, 0);
+                assert_eq!(m.parties[0].reports[a as usize], 1 + b);
+                report(&mut m, a, b, 1);
+                assert_eq!(m.parties[0].reports[a as usize], 8 + b);
+                assert_eq!(m.parties[0].reports.iter().filter(|&&r| r != 0).count(), 1);
+            }
+        }
+    }
+
+    /// 34 by manager, b and c; the earlier report stays, and so does none.
+    #[test]
+    fn unknown_reports() {
+        let mut m = begun(0, false);
+        report(&mut m, 1, 2, 1);
+        let bad = [
+            [4, 0, 0],
+            [5, 0, 0],
+            [u32::MAX, 0, 0],
+            [1, 7, 0],
+            [1, 8, 1],
+            [1, 256, 0],
+            [1, u32::MAX, 0],
+            [1, 0, 2],
+            [1, 0, 256],
+            [1, 0, u32::MAX],
+            [4, 7, 2],
+            [0, 7, 0],
+            [0, 0, 2],
+        ];
+        for [a, b, c] in bad {
+            let before = m.clone();
+            assert_eq!(step(&mut m, [0, 0, 22, a, b, c]), [34, 0, 0, 0, 0, 1]);
+            assert!(equal(&m, &before));
+        }
+        assert_eq!(m.parties[0].reports, [0, 10, 0, 0]);
+        // The clock goes on.
+        assert_eq!(step(&mut m, [9, 0, 22, 4, 0, 0])[0], 34);
+        assert_eq!(m.clock, 9);
+        assert_eq!(step(&mut m, [9, 0, 4, 0, 0, 0])[0], -2);
+    }
+
+    /// Only the owner reports on its transaction, else 23, which is asked first:
+    /// not without one, not a server in it, not once it ended, not another party.
+    #[test]
+    fn who_reports() {
+        let refused = |t| [23, 0, 0, 0, 0, t];
+        let m = drill(&[
+            ([0, 0, 22, 0, 0, 0], refused(0)),
+            ([0, 0, 1, 0, 0, 0], [0, 0, 0, 0, 0, 0]),
+            ([0, 0, 22, 0, 0, 0], refused(0)),
+            ([0, 0, 22, 4, 7, 2], refused(0)),
+            ([0, 0, 8, 1, 0, 0], [0, 0, 0, 0, 0, 0]),
+            ([0, 0, 22, 0, 0, 0], refused(0)),
+            ([0, 1, 1, 0, 0, 0], [0, 0, 0, 0, 0, 0]),
+            ([0, 1, 10, 5, 0, 0], [0, 1, 0, 0, 0, 0]),
+            ([0, 0, 3, 0, 0, 0], [0, 0, 0, 0, 0, 1]),
+            ([0, 1, 22, 0, 2, 0], refused(0)),
+            ([0, 0, 12, 5, 0, 7], [0, 1, 0, 0, 0, 1]),
+            ([0, 1, 14, 0, 0, 0], [0, 1, 64, 7, 5, 1]),
+            ([0, 1, 22, 0, 2, 0], refused(1)),
+            ([0, 1, 22, 4, 0, 0], refused(1)),
+            ([0, 1, 22, 0, 7, 0], refused(1)),
+            ([0, 1, 22, 0, 0, 2], refused(1)),
+            ([0, 0, 22, 0, 0, 0], [0, 0, 0, 0, 0, 1]),
+            ([0, 0, 22, 0, 0, 2], [34, 0, 0, 0, 0, 1]),
+            ([0, 0, 5, 0, 0, 0], [0, 0, 0, 0, 0, 2]),
+            // The served link's transaction is ended.
+            ([0, 1, 22, 0, 0, 0], refused(1)),
+            ([0, 16, 22, 0, 0, 0], [21, 0, 0, 0, 0, 0]),
+            ([0, 0, 23, 0, 0, 0], [20, 0, 0, 0, 0, 0]),
+        ]);
+        assert!(m.parties.iter().all(|party| party.reports == [0; 4]));
+    }
+
+    /// The owner is the lowest party that owns the transaction, as for a commit;
+    /// whether it is opened is not asked.
+    #[test]
+    fn owner_of_a_report() {
+        let mut m = begun(0, false);
+        m.parties[3].owned = 1;
+        m.parties[3].opened = true;
+        assert_eq!(
+            step(&mut m, [0, 3, 22, 0, 0, 0]),
+            [23, 0, 0, 0, 0, 1],
+            "a second owner"
+        );
+        assert_eq!(step(&mut m, [0, 3, 4, 0, 0, 0])[0], -5);
+        m.parties[0].opened = false;
+        assert_eq!(step(&mut m, [0, 0, 22, 0, 0, 0]), [0, 0, 0, 0, 0, 1]);
+        assert_eq!(step(&mut m, [0, 0, 4, 0, 0, 0])[0], -5);
+    }
+
+    /// What one manager, or two, give a commit: rows and columns are no report
+    /// and b 0 to 6; for each decision.
+    const TWO_MANAGERS: [[[i64; 8]; 8]; 2] = [
+        [
+            [-2, -2, -2, -2, -9, -2, -3, -4],
+            [-2, -2, -2, -2, -3, -2, -3, -4],
+            [-2, -2, -2, -2, -9, -2, -3, -4],
+            [-2, -2, -2, -2, -3, -2, -3, -4],
+            [-9, -3, -9, -3, -9, -3, -3, -4],
+            [-2, -2, -2, -2, -3, -2, -3, -4],
+            [-3, -3, -3, -3, -3, -3, -3, -3],
+            [-4, -4, -4, -4, -4, -4, -3, -4],
+        ],
+        // A veto makes the decision another, so its row and column are above.
+        [
+            [0, 0, 0, -2, 0, -2, -3, -4],
+            [0, 0, 0, -2, 0, -3, -3, -4],
+            [0, 0, 0, -2, 0, -2, -3, -4],
+            [-2, -2, -2, -2, -3, -2, -3, -4],
+            [0, 0, 0, -3, 0, -3, -3, -4],
+            [-2, -3, -2, -2, -3, -2, -3, -4],
+            [-3, -3, -3, -3, -3, -3, -3, -3],
+            [-4, -4, -4, -4, -4, -4, -3, -4],
+        ],
+    ];
+
+    /// The code of a commit with four managers' reports, 0 none and else 1 + b:
+    /// the most severe of what each two of them give under the decision.
+    fn most_severe(conditions: bool, four: [u32; 4]) -> i64 {
+        let decision = conditions && !four.contains(&3);
+        let two = &TWO_MANAGERS[usize::from(decision)];
+        let unreported = two[0][0];
+        let severity = |code: &i64| match *code {
+            -3 => 3,
+            -4 => 2,
+            code => u8::from(code != unreported),
+        };
+        four.iter()
+            .flat_map(|&x| four.iter().map(move |&y| two[x as usize][y as usize]))
+            .max_by_key(severity)
+            .unwrap_or(unreported)
+    }
+
+    /// All reports of up to four managers, under both decisions; a rollback is 0
+    /// with each of them.
+    #[test]
+    fn every_set_of_reports() {
+        let [good, bad] = [begun(0, false), begun(0, true)];
+        let mut seen = std::collections::BTreeMap::new();
+        for n in 0..8u32.pow(4) {
+            let four = [n % 8, n / 8 % 8, n / 64 % 8, n / 512];
+            for (conditions, start) in [(true, &good), (false, &bad)] {
+                let mut m = start.clone();
+                for (a, said) in (0..).zip(four) {
+                    if said != 0 {
+                        report(&mut m, a, said - 1, 0);
+                    }
+                }
+                assert_eq!(m.parties[0].reports, four);
+                let mut rolled_back = m.clone();
+                let code = step(&mut m, [0, 0, 4, 0, 0, 0])[0];
+                assert_eq!(code, most_severe(conditions, four), "{four:?}");
+                *seen.entry((conditions, code)).or_insert(0) += 1;
+                assert_eq!(step(&mut rolled_back, [0, 0, 5, 0, 0, 0])[0], 0);
+                assert_eq!(m.tx_state(0), 1);
+                assert!(equal(&m, &rolled_back));
+            }
+        }
+        let codes: Vec<(bool, i64)> = seen.into_keys().collect();
+        assert_eq!(
+            codes,
+            [
+                (false, -9),
+                (false, -4),
+                (false, -3),
+                (false, -2),
+                (true, -4),
+                (true, -3),
+                (true, -2),
+                (true, 0)
+            ]
+        );
+    }
+
+    /// The codes by which the rules are told apart, each written out.
+    #[test]
+    fn codes_of_reports() {
+        for (doomed, reports, code) in [
+            (false, &[][..], 0),
+            (true, &[], -2),
+            // A veto decides, and counts as rolled back.
+            (false, &[2], -2),
+            (false, &[2, 0, 0, 0], -2),
+            (false, &[2, 1], -2),
+            (false, &[2, 3], -3),
+            (true, &[2, 3], -3),
+            // Prepared counts as the decision.
+            (false, &[0, 0], 0),
+            (false, &[0, 3], 0),
+            (false, &[0, 4], -3),
+            (true, &[0, 0], -2),
+            (true, &[0, 3], -3),
+            (true, &[0, 4], -2),
+            // Read-only does not count.
+            (false, &[1, 4], -2),
+            (true, &[1, 3], -9),
+            (false, &[1, 1, 1, 1], 0),
+            (true, &[1, 1, 1, 1], -2),
+            // All rolled back, after a commit decision; all committed, after
+            // the other.
+            (false, &[4], -2),
+            (false, &[4, 4, 1], -2),
+            (true, &[3], -9),
+            (true, &[3, 3, 3, 3], -9),
+            (false, &[3, 3], 0),
+            // Mixed before hazard, and hazard before what is left.
+            (false, &[5, 6], -3),
+            (false, &[6, 3, 4], -3),
+            (false, &[6, 0, 4], -3),
+            (false, &[6], -4),
+            (false, &[6, 0, 3, 1], -4),
+            (false, &[6, 4], -4),
+            (false, &[6, 2], -4),
+            (true, &[6, 3], -4),
+            (true, &[6, 0], -4),
+            (true, &[5], -3),
+        ] {
+            for first in 0..4 {
+                let mut m = begun(0, doomed);
+                for (n, &b) in (first..).zip(reports) {
+                    report(&mut m, n % 4, b, 0);
+                }
+                assert_eq!(
+                    step(&mut m, [0, 0, 4, 0, 0, 0]),
+                    [code, 0, 0, 0, 0, 0],
+                    "{reports:?}"
+                );
+            }
+        }
+    }
+
+    /// A veto that is replaced does not count, and no more does what it replaced.
+    #[test]
+    fn replaced_reports() {
+        for (earlier, later, code) in [
+            (2, 0, 0),
+            (0, 2, -2),
+            (5, 6, -4),
+            (6, 3, 0),
+            (4, 1, 0),
+            (3, 4, -2),
+        ] {
+            let mut m = begun(0, false);
+            report(&mut m, 2, earlier, 0);
+            report(&mut m, 2, later, 0);
+            assert_eq!(step(&mut m, [0, 0, 4, 0, 0, 0])[0], code);
+        }
+        // Another manager's report replaces none.
+        let mut m = begun(0, false);
+        report(&mut m, 2, 2, 0);
+        report(&mut m, 1, 0, 0);
+        assert_eq!(step(&mut m, [0, 0, 4, 0, 0, 0])[0], -2);
+        // Nor can't start stands where a later report says that it can.
+        for (earlier, later, code) in [(1, 0, 0), (0, 1, -100)] {
+            let mut m = begun(1, false);
+            report(&mut m, 3, 0, earlier);
+            report(&mut m, 3, 0, later);
+            assert_eq!(step(&mut m, [0, 0, 4, 0, 0, 0])[0], code);
+        }
+    }
+
+    /// A manager that can't start, whatever it reports: chained, no new
+    /// transaction begins, no number is used and 100 is subtracted; unchained, it
+    /// makes no difference.
+    #[test]
+    fn cant_start() {
+        for doomed in [false, true] {
+            for b in 0..7u32 {
+                let commit = TWO_MANAGERS[usize::from(!doomed)][b as usize + 1][0];
+                for (kind, code) in [(4, commit), (5, 0)] {
+                    let mut m = begun(0, doomed);
+                    report(&mut m, 0, b, 1);
+                    assert_eq!(step(&mut m, [0, 0, kind, 0, 0, 0]), [code, 0, 0, 0, 0, 0]);
+                    assert_eq!(m.tx_state(0), 1);
+
+                    let mut m = begun(1, doomed);
+                    report(&mut m, 3, b, 1);
+                    let answer = step(&mut m, [0, 0, kind, 0, 0, 0]);
+                    assert_eq!(answer, [code - 100, 0, 0, 0, 0, 0], "{b}");
+                    assert_eq!((m.tx_state(0), m.parties[0].control), (2, 1));
+                    assert_eq!((m.last_transaction, m.parties[0].deadline), (1, 0));
+                    assert_eq!(m.parties[0].reports, [0; 4]);
+                    // The next one begins, and nothing is left of the reports.
+                    assert_eq!(step(&mut m, [0, 0, 3, 0, 0, 0]), [0, 0, 0, 0, 0, 2]);
+                    assert_eq!(step(&mut m, [0, 0, 4, 0, 0, 0]), [0, 0, 0, 0, 0, 3]);
+
+                    let mut m = begun(1, doomed);
+                    report(&mut m, 3, b, 0);
+                    let answer = step(&mut m, [0, 0, kind, 0, 0, 0]);
+                    assert_eq!(answer, [code, 0, 0, 0, 0, 2]);
+                }
+            }
+        }
+        // It is enough that one can't, and of two 100 is subtracted once.
+        for second in [0, 1] {
+            let mut m = begun(1, false);
+            report(&mut m, 0, 0, second);
+            report(&mut m, 1, 1, 1);
+            assert_eq!(step(&mut m, [0, 0, 4, 0, 0, 0]), [-100, 0, 0, 0, 0, 0]);
+        }
+        // The control that counts is the one at the commit.
+        let mut m = begun(0, false);
+        report(&mut m, 0, 0, 1);
+        step(&mut m, [0, 0, 8, 1, 0, 0]);
+        assert_eq!(step(&mut m, [0, 0, 4, 0, 0, 0])[0], -100);
+        // The deadline goes too; the timeout is for the next one.
+        for end in [4, 5] {
+            let mut m = Monitor::fresh();
+            let calls = [
+                [0, 0, 1, 0, 0, 0],
+                [0, 0, 8, 1, 0, 0],
+                [0, 0, 9, 10, 0, 0],
+                [5, 0, 3, 0, 0, 0],
+                [5, 0, 22, 0, 1, 1],
+                [6, 0, end, 0, 0, 0],
+            ];
+            assert_eq!(codes(&mut m, &calls), [0, 0, 0, 0, 0, -100]);
+            assert_eq!((m.parties[0].deadline, m.parties[0].timeout), (0, 10));
+            assert_eq!(step(&mut m, [7, 0, 3, 0, 0, 0])[0], 0);
+            assert_eq!(m.parties[0].deadline, 17);
+        }
+    }
+
+    /// With the numbers spent as well 100 is subtracted once.
+    #[test]
+    fn cant_start_and_spent_numbers() {
+        for (doomed, b, code) in [
+            (false, 0, -100),
+            (false, 1, -100),
+            (false, 2, -102),
+            (false, 5, -103),
+            (false, 6, -104),
+            (true, 3, -109),
+        ] {
+            for c in [0, 1] {
+                let mut m = begun(1, doomed);
+                m.last_transaction = LAST_NUMBER;
+                report(&mut m, 0, b, c);
+                let mut rolled_back = m.clone();
+                assert_eq!(step(&mut m, [0, 0, 4, 0, 0, 0]), [code, 0, 0, 0, 0, 0]);
+                assert_eq!(m.tx_state(0), 2);
+                let answer = step(&mut rolled_back, [0, 0, 5, 0, 0, 0]);
+                assert_eq!(answer, [-100, 0, 0, 0, 0, 0]);
+                assert!(equal(&m, &rolled_back));
+            }
+        }
+    }
+
+    /// Reports on a doomed transaction, an expired one and one with an open link
+    /// are taken, and count.
+    #[test]
+    fn reports_on_a_spoiled_transaction() {
+        let doomed = begun(0, true);
+        let mut open = begun(0, false);
+        let calls = [[0, 9, 10, 64, 0, 0], [0, 0, 12, 64, 0, 0]];
+        assert_eq!(codes(&mut open, &calls), [0, 0]);
+        let mut expired = Monitor::fresh();
+        let calls = [BEGUN[0], [0, 0, 9, 10, 0, 0], [5, 0, 3, 0, 0, 0]];
+        assert_eq!(codes(&mut expired, &calls), [0, 0, 0]);
+        for mut m in [doomed, open, expired] {
+            for (b, code) in [(3, -9), (0, -2), (1, -2), (6, -4), (5, -3)] {
+                let mut m = m.clone();
+                assert_eq!(step(&mut m, [15, 0, 22, 0, b, 0]), [0, 0, 0, 0, 0, 1]);
+                assert_eq!(step(&mut m, [15, 0, 4, 0, 0, 0]), [code, 0, 0, 0, 0, 0]);
+            }
+            assert_eq!(step(&mut m, [15, 0, 4, 0, 0, 0])[0], -2);
+        }
+    }
+
+    /// Reports go with the transaction: at a commit and a rollback, chained or
+    /// not, at a return and at a fall.
+    #[test]
+    fn reports_go() {
+        for kind in [4, 5] {
+            for control in [0, 1] {
+                let mut m = begun(control, false);
+                for a in 0..4 {
+                    report(&mut m, a, 2, 0);
+                }
+                step(&mut m, [0, 0, kind, 0, 0, 0]);
+                assert_eq!(m.parties[0].reports, [0; 4]);
+                if control == 0 {
+                    step(&mut m, [0, 0, 3, 0, 0, 0]);
+                }
+                assert_eq!(step(&mut m, [0, 0, 4, 0, 0, 0])[0], 0);
+            }
+        }
+        for end in [[0, 0, 20, 1, 0, 0], [0, 0, 21, 0, 0, 0]] {
+            // Party 0 serves a request of no transaction and begins its own.
+            let mut m = Monitor::fresh();
+            let calls = [
+                [0, 0, 1, 0, 0, 0],
+                [0, 0, 10, 5, 0, 0],
+                [0, 1, 12, 5, 0, 7],
+                [0, 0, 14, 0, 0, 0],
+                [0, 0, 3, 0, 0, 0],
+                [0, 0, 22, 1, 2, 1],
+            ];
+            assert_eq!(codes(&mut m, &calls), [0; 6]);
+            assert_eq!(step(&mut m, end), [0, 2, 0, 0, 0, 0]);
+            assert_eq!(m.parties[0].reports, [0; 4]);
+            assert_eq!(codes(&mut m, &BEGUN), [0, 0]);
+            assert_eq!(step(&mut m, [0, 0, 4, 0, 0, 0])[0], 0);
+        }
+        // A fall without service.
+        let mut m = begun(1, false);
+        report(&mut m, 0, 2, 1);
+        assert_eq!(step(&mut m, [0, 0, 21, 0, 0, 0])[0], 0);
+        assert_eq!(codes(&mut m, &BEGUN), [0, 0]);
+        assert_eq!(step(&mut m, [0, 0, 4, 0, 0, 0])[0], 0);
+    }
+
+    /// Reports that a record holds without a transaction, which no list reaches:
+    /// a begin leaves them, and so does a return that ends no transaction.
+    #[test]
+    fn stray_reports() {
+        let mut m = Monitor::fresh();
+        m.parties[0].reports = [0, 3, 0, 8];
+        let calls = [
+            [0, 0, 1, 0, 0, 0],
+            [0, 0, 10, 5, 0, 0],
+            [0, 1, 12, 5, 0, 7],
+            [0, 0, 14, 0, 0, 0],
+            [0, 0, 20, 1, 0, 0],
+            [0, 0, 8, 1, 0, 0],
+            [0, 0, 3, 0, 0, 0],
+        ];
+        assert_eq!(codes(&mut m, &calls), [0; 7]);
+        assert_eq!(m.parties[0].reports, [0, 3, 0, 8]);
+        assert_eq!(step(&mut m, [0, 0, 4, 0, 0, 0])[0], -102);
+        assert_eq!(m.parties[0].reports, [0; 4]);
+    }
+
+    /// A record is sound only if every report is at most 14.
+    #[test]
+    fn soundness_of_reports() {
+        for p in [0, 7, 15] {
+            for a in 0..4 {
+                let mut m = begun(0, false);
+                for report in 0..=14 {
+                    m.parties[p].reports[a] = report;
+                    assert!(m.is_sound());
+                }
+                for report in [15, 16, 255, 256, u32::MAX] {
+                    m.parties[p].reports[a] = report;
+                    assert!(!m.is_sound());
+                    assert_eq!(step(&mut m, [9, 0, 22, 0, 0, 0]), [19, 0, 0, 0, 0, 0]);
+                    assert_eq!(run_list(&mut m, &[], &mut []), 19);
+                    assert_eq!(m.clock, 0);
+                    assert!(!equal(&m, &m.clone()));
+                }
+            }
+        }
+    }
+
+    /// Equality compares each report, b and whether the manager can start.
+    #[test]
+    fn equality_compares_reports() {
+        let m = begun(0, false);
+        let mut kept: Vec<Monitor> = vec![m.clone()];
+        for a in 0..4 {
+            for b in 0..7 {
+                for c in [0, 1] {
+                    let mut m = m.clone();
+                    report(&mut m, a, b, c);
+                    assert!(equal(&m, &m.clone()));
+                    assert!(kept.iter().all(|other| !equal(&m, other)));
+                    kept.push(m);
+                }
+            }
+        }
     }
 }

@@ -1,6 +1,6 @@
-//! The record as a host of the proved monitor holds it: 772 words. This implementation's record in those words, and back.
+//! The record as a host of the proved monitor holds it: 836 words. This implementation's record in those words, and back.
 
-use crate::monitor::{self as plain, Cut, End, Kind, State, LINKS, PARTIES, UNREAD};
+use crate::monitor::{self as plain, Cut, End, Kind, State, LINKS, MANAGERS, PARTIES, UNREAD};
 
 /// A number of 64 bits in two words, the low half first.
 pub type Long = [u32; 2];
@@ -20,6 +20,7 @@ pub struct Party {
     pub deadline: Long,
     pub rollbackonly: u32,
     pub served: u32,
+    pub reports: [u32; MANAGERS],
 }
 
 #[repr(C)]
@@ -55,7 +56,7 @@ pub struct Monitor {
 }
 
 /// How many words a record has.
-pub const WORDS: usize = 4 + 10 * PARTIES + 19 * LINKS;
+pub const WORDS: usize = 4 + 14 * PARTIES + 19 * LINKS;
 
 const _: () = assert!(size_of::<Monitor>() == WORDS * 4);
 
@@ -101,6 +102,7 @@ fn party(p: plain::Party) -> Party {
         deadline: long(p.deadline),
         rollbackonly: p.doomed.into(),
         served: p.served,
+        reports: p.reports,
     }
 }
 
@@ -183,6 +185,7 @@ fn held_party(p: &Party) -> Option<plain::Party> {
         opened: choice(p.opened, &[false, true])?,
         control: p.control.try_into().ok()?,
         doomed: choice(p.rollbackonly, &[false, true])?,
+        reports: p.reports,
     })
 }
 

@@ -6,12 +6,15 @@
 use outside::faults::{with, Fault, Run, KIND_NAMES};
 use outside::generator::Generator;
 use outside::history::{self, Broken, Entry};
+use outside::kinds::LAST_KIND;
 use std::process::ExitCode;
 
 type Call = [u32; 6];
 
 /// The longest history that is searched.
 const LENGTH: usize = 400;
+/// A kind that there is not.
+const UNKNOWN_KIND: u32 = LAST_KIND + 1;
 /// How many that fail are made shorter.
 const ENOUGH: usize = 100;
 
@@ -53,11 +56,11 @@ fn search(seed: u64) -> Option<Vec<Call>> {
         // Malformed at times, with a later clock.
         let rng = generator.rng();
         match rng.below(60) {
-            0 => call[2] = 22,
+            0 => call[2] = UNKNOWN_KIND,
             1 => call[1] = 16,
             _ => {}
         }
-        if call[2] == 22 || call[1] == 16 {
+        if call[2] == UNKNOWN_KIND || call[1] == 16 {
             call[0] = call[0].saturating_add(rng.below(8));
         }
         // A call after which the record would be no ground is left out.

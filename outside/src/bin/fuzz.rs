@@ -3,16 +3,17 @@
 //!
 //! Also asked: a step keeps a record sound; a refusal changes nothing but the
 //! clock (and up to question 21 nothing at all) and has zeros beside its number
-//! and T; a fetch of any reply is told by fetches by number; a list does what
-//! its calls do; a drill file is read as written; and the same on records no
-//! list reaches, made by changing fields at random.
+//! and T; a fetch of any reply is told by fetches by number; a commit's code is
+//! the most severe of what its managers' reports give two by two; a list does
+//! what its calls do; a drill file is read as written; and the same on records
+//! no list reaches, made by changing fields at random.
 
 use outside::drill;
 use outside::generator::{self, Generator, Rng};
 use outside::history::{self, Entry};
 use outside::monitor::{
     equal, equal_with_tokens, run_list, step, Cut, End, Kind, Link, Monitor, State, LAST_NUMBER,
-    LINKS, PARTIES,
+    LINKS, MANAGERS, PARTIES,
 };
 use std::process::ExitCode;
 
@@ -33,6 +34,10 @@ struct Tally {
     disconnect_and_unfinished: u64,
     only_deadline: u64,
     only_unfinished: u64,
+    only_report: u64,
+    /// Committed with a report that was replaced and spoke against it.
+    committed_with_replaced_report: u64,
+    committed_with_report: u64,
     most_links_of_one_commit: usize,
     most_turns_on_a_link: u64,
     deepest_nesting: u64,
@@ -56,6 +61,12 @@ fn literally_sound(m: &Monitor) -> bool {
     let unread = links.iter().all(|l| l.unread_count <= 4);
     let choices = links.iter().all(|l| [0, 2, 4, 8].contains(&l.outcome))
         && m.parties.iter().all(|p| [0, 1].contains(&p.control));
+    // None, or one of seven for a manager that can start or can't.
+    let reports = m
+        .parties
+        .iter()
+        .flat_map(|p| p.reports)
+        .all(|r| r == 0 || (0..7).any(|b| r == 1 + b || r == 8 + b));
     let returned = links
         .iter()
         .all(|l| l.state != State::Returned || l.outcome != 0);
@@ -65,7 +76,15 @@ fn literally_sound(m: &Monitor) -> bool {
         };
         party.served == 0 || links.iter().any(names)
     });
-    rising && in_range && last_numbers && parties && unread && choices && returned && served
+    rising
+        && in_range
+        && last_numbers
+        && parties
+        && unread
+        && choices
+        && reports
+        && returned
+        && served
 }
 
 /// A record compared bit by bit, sound or not.
@@ -128,10 +147,102 @@ fn check_step(
     if t != own {
         return fail("last field");
     }
-    if !malformed && (call[2], call[4]) == (15, 1) {
-        return check_any_fetch(before, after, call, answer);
+    if malformed {
+        return Ok(());
+    }
+    match (call[2], call[4]) {
+        (15, 1) => check_any_fetch(before, after, call, answer),
+        (4 | 5, _) => check_end(before, after, call, answer),
+        _ => Ok(()),
+    }
+}
+
+/// The end of a transaction by its owner, from the same end without reports.
+fn check_end(
+    before: &Monitor,
+    after: &Monitor,
+    call: [u32; 6],
+    answer: [i64; 6],
+) -> Result<(), String> {
+    let p = call[1] as usize;
+    let mut plain = before.clone();
+    plain.parties[p].reports = [0; MANAGERS];
+    let unreported = step(&mut plain, call);
+    if unreported[0] == -5 {
+        return if answer == unreported {
+            Ok(())
+        } else {
+            Err(format!(
+                "an end by another: call {call:?} before {before:?}"
+            ))
+        };
+    }
+    let said: Vec<(u32, bool)> = before.parties[p]
+        .reports
+        .into_iter()
+        .filter(|&report| report != 0)
+        .map(|report| ((report - 1) % 7, report > 7))
+        .collect();
+    let mut code = if unreported[0] <= -100 {
+        unreported[0] + 100
+    } else {
+        unreported[0]
+    };
+    if call[2] == 4 {
+        code = combined(code == 0, said.iter().map(|&(b, _)| b));
+    }
+    let stops = before.parties[p].control == 1 && said.iter().any(|&(_, cant_start)| cant_start);
+    // As it would be without reports, but for a transaction that can't start.
+    if stops && unreported[0] > -100 {
+        plain.parties[p].owned = 0;
+        plain.parties[p].deadline = 0;
+        plain.last_transaction -= 1;
+    }
+    if stops || unreported[0] <= -100 {
+        code -= 100;
+    }
+    if answer[0] != code || !equal_with_tokens(&plain, after) {
+        return Err(format!(
+            "an end: call {call:?} answer {answer:?}, expected {code}, before {before:?}"
+        ));
     }
     Ok(())
+}
+
+/// The code of a commit by document 002's appendix B: what two managers give
+/// together, and of all that the most severe. `sound` is the decision but for
+/// vetoes.
+fn combined(sound: bool, reports: impl Iterator<Item = u32>) -> i64 {
+    let counted: Vec<u32> = reports.filter(|&b| b != 1).collect();
+    let commits = sound && !counted.contains(&2);
+    // Each manager's own end: 'c' committed, 'r' rolled back, 'm', 'h'.
+    let ends: Vec<char> = counted
+        .iter()
+        .map(|&b| match b {
+            0 if commits => 'c',
+            0 | 2 | 4 => 'r',
+            3 => 'c',
+            5 => 'm',
+            _ => 'h',
+        })
+        .collect();
+    let pair = |one: char, two: char| match (one, two) {
+        ('m', _) | (_, 'm') | ('c', 'r') | ('r', 'c') => -3,
+        ('h', _) | (_, 'h') => -4,
+        ('c', _) if commits => 0,
+        ('c', _) => -9,
+        _ => -2,
+    };
+    let severity = |code: &i64| match code {
+        -3 => 3,
+        -4 => 2,
+        0 => 0,
+        _ => 1,
+    };
+    ends.iter()
+        .flat_map(|&one| ends.iter().map(move |&two| pair(one, two)))
+        .max_by_key(severity)
+        .unwrap_or(if commits { 0 } else { -2 })
 }
 
 /// A fetch of any reply, from fetches by number: the answer and record of the
@@ -204,6 +315,15 @@ fn tally_history(entries: &[Entry], from: usize, tally: &mut Tally) {
                     && commit.links.iter().any(|&(d, _)| d == answer[1])
             });
             tally.committed_with_any_fetch += u64::from(any_fetch);
+            let t = last_answer(&entries[..at], call[1]);
+            let reports = || {
+                entries[..at]
+                    .iter()
+                    .filter(|(call, answer)| (call[2], answer[0], answer[5]) == (22, 0, t))
+            };
+            tally.committed_with_report += u64::from(reports().next().is_some());
+            let against = reports().any(|(call, _)| matches!(call[4], 2 | 4 | 5 | 6));
+            tally.committed_with_replaced_report += u64::from(against);
             continue;
         }
         tally.rolled_back += 1;
@@ -212,14 +332,23 @@ fn tally_history(entries: &[Entry], from: usize, tally: &mut Tally) {
             commit.disconnect,
             commit.passed_deadline,
             commit.unfinished,
+            commit.report_against,
         ) {
-            (true, false, false, false) => tally.only_failed_end += 1,
-            (false, true, false, true) => tally.disconnect_and_unfinished += 1,
-            (false, false, true, false) => tally.only_deadline += 1,
-            (false, false, false, true) => tally.only_unfinished += 1,
+            (true, false, false, false, false) => tally.only_failed_end += 1,
+            (false, true, false, true, false) => tally.disconnect_and_unfinished += 1,
+            (false, false, true, false, false) => tally.only_deadline += 1,
+            (false, false, false, true, false) => tally.only_unfinished += 1,
+            (false, false, false, false, true) => tally.only_report += 1,
             _ => {}
         }
     }
+}
+
+/// The transaction that the party's latest answer past question 21 ends in.
+fn last_answer(entries: &[Entry], party: u32) -> i64 {
+    let mut own = entries.iter().rev();
+    let latest = own.find(|(call, answer)| call[1] == party && !matches!(answer[0], 19..=21));
+    latest.map_or(0, |(_, answer)| answer[5])
 }
 
 /// How deep services are nested: a served link whose originator serves, too.
@@ -331,7 +460,7 @@ fn change(m: &mut Monitor, rng: &mut Rng) {
                 1
             };
             let party = &mut m.parties[p];
-            match rng.below(8) {
+            match rng.below(10) {
                 0 => party.opened = !party.opened,
                 1 => party.control = rng.below(if wild { 4 } else { 2 }) as u8,
                 2 => party.timeout = number(rng, 5),
@@ -339,6 +468,13 @@ fn change(m: &mut Monitor, rng: &mut Rng) {
                 4 => party.owned = number(rng, last_transaction),
                 5 => party.deadline = u64::from(number(rng, 100)),
                 6 => party.doomed = !party.doomed,
+                7 | 8 => {
+                    let manager = rng.below(MANAGERS as u32) as usize;
+                    party.reports[manager] = match wild {
+                        true => rng.pick(&[14, 15, 16, 255, 256, u32::MAX]),
+                        false => rng.below(15),
+                    };
+                }
                 _ => party.served = if rng.once_in(2) { 0 } else { link },
             }
         }

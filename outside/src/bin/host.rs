@@ -210,7 +210,7 @@ fn served(m: &Monitor) -> (Link, usize) {
 }
 
 /// Each way that soundness names, for a sound record with a waiting, a working and a returned link and room for another.
-const DAMAGES: [Damage; 30] = [
+const DAMAGES: [Damage; 33] = [
     ("33 links", |m| m.count = 33),
     ("the most links", |m| m.count = u32::MAX),
     ("a number twice", |m| m.links[1].number = m.links[0].number),
@@ -237,6 +237,11 @@ const DAMAGES: [Damage; 30] = [
     ("opened 2", |m| m.parties[15].opened = 2),
     ("control 2", |m| m.parties[15].control = 2),
     ("rollbackonly 2", |m| m.parties[0].rollbackonly = 2),
+    ("report 15", |m| m.parties[0].reports[0] = 15),
+    ("report 15 of the last", |m| m.parties[15].reports[3] = 15),
+    ("the greatest report", |m| {
+        m.parties[7].reports[2] = u32::MAX
+    }),
     ("served, no link", |m| m.parties[3].served = m.lastlink + 1),
     ("served, past the last link", |m| {
         let (l, p) = served(m);

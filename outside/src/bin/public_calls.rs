@@ -442,7 +442,7 @@ fn fresh_lists(data: &Data, base: &Monitor) {
 }
 
 const HEAD: [&str; 4] = ["clock", "lastlink", "lasttx", "count"];
-const PARTY: [&str; 10] = [
+const PARTY: [&str; 14] = [
     "opened",
     "control",
     "timeout",
@@ -453,6 +453,10 @@ const PARTY: [&str; 10] = [
     "deadline high",
     "rollbackonly",
     "served",
+    "report first",
+    "report second",
+    "report third",
+    "report fourth",
 ];
 const LINK: [&str; 19] = [
     "number",
@@ -479,8 +483,8 @@ const LINK: [&str; 19] = [
 fn name(at: usize) -> String {
     match at {
         0..4 => HEAD[at].into(),
-        4..164 => format!("party {} {}", (at - 4) / 10, PARTY[(at - 4) % 10]),
-        _ => format!("link at {} {}", (at - 164) / 19, LINK[(at - 164) % 19]),
+        4..228 => format!("party {} {}", (at - 4) / 14, PARTY[(at - 4) % 14]),
+        _ => format!("link at {} {}", (at - 228) / 19, LINK[(at - 228) % 19]),
     }
 }
 
