@@ -249,7 +249,7 @@ fn has_unfinished(before: &[Entry], links: &[(i64, u32)]) -> bool {
 }
 
 /// "standing is each manager's last accepted 22 with an answer ending in T"
-/// . Gives manager and b of each, the latest first.
+/// managers are 0 to 3. Gives manager and b of each, the latest first.
 fn standing_reports(before: &[Entry], t: i64) -> Vec<(u32, u32)> {
     let mut standing: Vec<(u32, u32)> = Vec::new();
     for entry in before.iter().rev() {
@@ -257,6 +257,7 @@ fn standing_reports(before: &[Entry], t: i64) -> Vec<(u32, u32)> {
         if kind == 22
             && is_accepted(entry)
             && ending(entry) == t
+            && a <= 3
             && standing.iter().all(|&(manager, _)| manager != a)
         {
             standing.push((a, b));
@@ -598,6 +599,9 @@ mod tests {
         let mut h = reported(&[[1, 2, 2], [4, 2, 0], [1, 0, 0]]);
         assert_eq!([code(&h[2]), code(&h[3]), code(&h[4])], [34, 34, 0]);
         assert_eq!((h[5].1[0], check(&h)), (0, None));
+        // Nor would one of a manager that there is not, if it were accepted.
+        h[3].1[0] = 0;
+        assert_eq!((standing_reports(&h, 1), check(&h)), (vec![(1, 0)], None));
         h[2].1[0] = 0;
         h.swap(2, 4);
         assert_eq!(check(&h), Some(Broken::WronglyCommitted { commit: 5 }));

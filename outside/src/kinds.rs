@@ -340,7 +340,7 @@ pub const KINDS: &[Row] = {
             number: 22,
             word: "report",
             arguments: [Manager, Vote, CantStart],
-            weights: &[(Unfit, 1), (Fit, 4), (More, 3), (Heard, 20)],
+            weights: &[(Unfit, 1), (Fit, 2), (More, 3), (Heard, 20)],
             codes: &[0, 23, 34],
             ..PLAIN
         },

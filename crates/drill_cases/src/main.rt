@@ -1,5 +1,5 @@
 // Stored drill files. case-00, case-01 and so on, up to the first that is missing: each one's name, and its listing.
-// Then the files that use all numbers up: spent-a once, spent-b and spent-c many times over, and from there spent-d to spent-k are listed.
+// Then the files that use all numbers up: spent-a once, spent-b and spent-c many times over, and from there spent-d to spent-n are listed.
 mod spent;
 
 ghost use mathlib.Core.Path.{_≡_};
@@ -60,4 +60,7 @@ fn main() {
     spent::list_stored(all, b"spent-i");
     spent::list_stored(all, b"spent-j");
     spent::list_stored(all, b"spent-k");
+    spent::list_stored(all, b"spent-l");
+    spent::list_stored(all, b"spent-m");
+    spent::list_stored(all, b"spent-n");
 }

@@ -15,7 +15,7 @@ use Rattle.rules.specs.Record.{freshMonitor, blanks, numbered, owns, ownEnd, li
 use Rattle.rules.specs.Transaction.{servedTx, txOf, ended, expired, isOwner, rollbackOnlyIn, deadlineOf, beginTx, orphaned, endOf, endTx, isOpenOf, canCommit}
 use Rattle.rules.specs.States.{stateOf, nextOf, inState, entered}
 use Rattle.rules.specs.Tx.{openOf, closeOf, beginOf, goOn, commitOf, rollbackOf, infoOf, commitReturnOf, controlOf, timeoutOf}
-use Rattle.rules.specs.Votes.{reportOn, reportIs, reportOf, decides, someCommitted, someRolledBack, voteCode, codeAfter, commitCode, allCanStart}
+use Rattle.rules.specs.Votes.{reportNumber, reportIs, reportOf, decides, someCommitted, someRolledBack, voteCode, codeAfter, commitCode, allCanStart}
 use Rattle.rules.specs.Services.{inSet, offers, countTo, offered, withService, offersNow, advertiseOf, unadvertiseOf}
 use Rattle.rules.specs.Requests.{linkTx, askLink, requestOf, connectOf, isIdle, fits, dispatchEvent, dispatched}
 use Rattle.rules.specs.Requests.{dispatchOf}
@@ -55,7 +55,7 @@ answered-right rs h = record { runs = same-code _ _ (and-l _ _ h); answers = sam
 pub real-answered : (k : ℕ) → k < length real → Answered (getD real k [])
 unfolding every right samePlaces pick same noBegin firstOf anyOf collect blanks numbered owns ownEnd linkOf changed goneOf removed servedTx txOf
     ended expired isOwner rollbackOnlyIn deadlineOf beginTx orphaned endOf endTx isOpenOf canCommit stateOf nextOf inState entered openOf closeOf
-    beginOf goOn reportOn reportIs reportOf decides someCommitted someRolledBack voteCode codeAfter commitCode allCanStart commitOf rollbackOf
+    beginOf goOn reportNumber reportIs reportOf decides someCommitted someRolledBack voteCode codeAfter commitCode allCanStart commitOf rollbackOf
     infoOf commitReturnOf controlOf timeoutOf inSet offers countTo offered withService offersNow advertiseOf unadvertiseOf linkTx askLink requestOf
     connectOf isIdle fits dispatchEvent dispatched dispatchOf requestEnd outcomeCode fetched fetchOne expiredEnd repliedEnd fetchAny fetchOf
     cancelled cancelOf originatorEnd serverEnd anyEnd hearsDisconnect hearsReturn endSide isSender tellsDisconnect tellsReturn sendOn sendOf

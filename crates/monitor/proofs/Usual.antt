@@ -33,7 +33,7 @@ unfoldable pub use Rattle.rules.specs.Transaction.{servedTx, txOf, ended, expir
 unfoldable pub use Rattle.rules.specs.Transaction.{beginTx, orphaned, endOf, endTx, isOpenOf, canCommit}
 unfoldable pub use Rattle.rules.specs.States.{stateOf, nextOf, inState, entered}
 unfoldable pub use Rattle.rules.specs.Tx.{openOf, closeOf, beginOf, goOn, commitOf, rollbackOf, infoOf, commitReturnOf, controlOf, timeoutOf}
-unfoldable pub use Rattle.rules.specs.Votes.{reportOn, reportIs, decides, someCommitted, someRolledBack, voteCode, codeAfter, commitCode, allCanStart, reportOf}
+unfoldable pub use Rattle.rules.specs.Votes.{reportNumber, reportIs, decides, someCommitted, someRolledBack, voteCode, codeAfter, commitCode, allCanStart, reportOf}
 pub use Rattle.rules.specs.Services.{isService}
 unfoldable pub use Rattle.rules.specs.Services.{inSet, offers, withService, offersNow, advertiseOf, unadvertiseOf}
 pub use Rattle.rules.specs.Requests.{connectFlags}

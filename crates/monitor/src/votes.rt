@@ -3,7 +3,7 @@ ghost use mathlib.Core.Path.{_≡_};
 ghost use Prim.Native.Nat.{_<_, _≤_};
 ghost use lib.ListN.{length};
 ghost use Rattle.rules.specs.Lists.{anyOf};
-ghost use Rattle.rules.specs.Votes.{reportOn, reportIs, reportOf, voteCode, commitCode, allCanStart};
+ghost use Rattle.rules.specs.Votes.{reportNumber, reportIs, reportOf, voteCode, commitCode, allCanStart};
 ghost use Rattle.monitor.specs.Ending.{EndCode};
 ghost use Rattle.monitor.specs.Words.{words};
 ghost use Rattle.monitor.specs.View.{view, ruledBy};
@@ -17,9 +17,9 @@ use super::words::put_party;
 use rules::codes;
 
 // A report of b as the record keeps it, with c = 1 where the manager can't start.
-pub(crate) fn report_on(b: u32, c: u32) -> u32
+pub(crate) fn report_number(b: u32, c: u32) -> u32
     requires { ⌜ b ≤ 6 ⌝ }
-    ensures { λ r. ⌜ r ≡ reportOn b c ⌝ }
+    ensures { λ r. ⌜ r ≡ reportNumber b c ⌝ }
 {
     if c == 1 {
         return 8 + b;
@@ -118,7 +118,7 @@ pub(crate) fn report(s: &mut [u32; WORDS], p: usize, a: u32, b: u32, c: u32) -> 
     if !known {
         return coded(codes::BAD_REPORT);
     }
-    let r = report_on(b, c);
+    let r = report_number(b, c);
     let mut q = party_at(&*s, p);
     let i = a as usize;
     q.reports[i] = r;

@@ -12,7 +12,7 @@ use Rattle.rules.specs.Record.{blanks, owns}
 use Rattle.rules.specs.Transaction.{servedTx, txOf, isOwner, deadlineOf, beginTx, endOf, endTx, isOpenOf, canCommit}
 use Rattle.rules.specs.States.{stateOf, nextOf, inState, entered}
 use Rattle.rules.specs.Tx.{openOf, beginOf, goOn, commitOf, rollbackOf, infoOf, controlOf, timeoutOf}
-use Rattle.rules.specs.Votes.{reportOn, reportIs, reportOf, decides, someCommitted, someRolledBack, voteCode, codeAfter, commitCode, allCanStart}
+use Rattle.rules.specs.Votes.{reportNumber, reportIs, reportOf, decides, someCommitted, someRolledBack, voteCode, codeAfter, commitCode, allCanStart}
 use Rattle.rules.specs.Sound.{reportsGood, linksGood, partyGood, partiesGood, sound}
 use Rattle.rules.specs.Step.{ruleOf, laterOf, answeredTo, turnedDown, callOf}
 use Rattle.rules.specs.Run.{callAt, placesOf, ranOf, answersOf, listOf}
@@ -67,8 +67,12 @@ voted =
     ∷ ends (inTx (votes 0 6 0 ++ votes 1 0 0 ++ votes 2 4 0 ++ commits)) (negsuc 2) 0
     -- a hazard, beside prepared
     ∷ ends (inTx (votes 0 6 0 ++ votes 1 0 0 ++ commits)) (negsuc 3) 0
+    -- beside one that is rolled back
+    ∷ ends (inTx (votes 0 6 0 ++ votes 1 4 0 ++ commits)) (negsuc 3) 0
     -- and after a rollback decision
     ∷ ends (late (votes 0 6 0 ++ call 15 4 0 0 0)) (negsuc 3) 15
+    -- beside one that is committed
+    ∷ ends (late (votes 0 6 0 ++ votes 1 3 0 ++ call 15 4 0 0 0)) (negsuc 3) 15
     -- all rolled back, after a commit decision
     ∷ ends (inTx (votes 0 4 0 ++ commits)) (negsuc 1) 0
     -- committed, after a rollback decision
@@ -99,6 +103,6 @@ voted =
 pub voted-holds : (k : ℕ) → k < length voted → Holds (getD voted k freshBegin)
 unfolding every right pick same noBegin firstOf anyOf collect blanks owns servedTx txOf isOwner deadlineOf beginTx endOf endTx isOpenOf canCommit
     reportIs decides someCommitted someRolledBack voteCode codeAfter commitCode allCanStart stateOf nextOf inState entered openOf beginOf goOn
-    commitOf rollbackOf infoOf controlOf timeoutOf reportsGood linksGood partyGood partiesGood sound reportOn reportOf ruleOf laterOf answeredTo
+    commitOf rollbackOf infoOf controlOf timeoutOf reportsGood linksGood partyGood partiesGood sound reportNumber reportOf ruleOf laterOf answeredTo
     turnedDown callOf callAt placesOf ranOf answersOf listOf
 voted-holds k h = holds-right (getD voted k freshBegin) (entry right freshBegin voted refl k h)

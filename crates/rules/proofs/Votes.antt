@@ -17,7 +17,7 @@ use Rattle.rules.specs.Transaction.{isOwner, endTx, canCommit}
 use Rattle.rules.specs.States.{entered}
 use Rattle.rules.specs.Tx.{nextState, goOn, commitOf, rollbackOf}
 use Rattle.rules.specs.Sound.{reportsGood}
-use Rattle.rules.specs.Votes.{reportOn, reportIs, isPrepared, isVeto, isRolledBack, isMixed, isHazard, cantStart, decides, someRolledBack, voteCode, codeAfter, commitCode, allCanStart, reportOf}
+use Rattle.rules.specs.Votes.{reportNumber, reportIs, isPrepared, isVeto, isRolledBack, isMixed, isHazard, cantStart, decides, someRolledBack, voteCode, codeAfter, commitCode, allCanStart, reportOf}
 use Rattle.rules.specs.Standing.{isAgainst, isDone}
 use Rattle.rules.specs.declared.Monitor.{Monitor}
 use Rattle.rules.proofs.Logic.{byTest, test, not-both, and-l, and-r, or-true, or-false, not-true, pick-true, pick-false, pick-yes, pick-or, beq-true}
@@ -105,8 +105,8 @@ any-set f a v [] h k = h
 any-set f zero v (r ∷ rs) h k = rw k (test (f r) (λ y. not-both refl (rw y at h)) (λ y. rw y at h))
 any-set f (suc a) v (r ∷ rs) h k = test (f r) (λ y. not-both refl (rw y at h)) (λ y. rw y (any-set f a v rs (rw y at h) k))
 
-pub report-small : (b c : ℕ) → b ≤ 6 → ltb 14 (reportOn b c) ≡ false
-unfolding reportOn
+pub report-small : (b c : ℕ) → b ≤ 6 → ltb 14 (reportNumber b c) ≡ false
+unfolding reportNumber
 report-small b c h = byTest (λ x. ltb 14 x ≡ false) (λ _. le-ltb 14 (8 + b) (omega arith)) (λ _. le-ltb 14 (1 + b) (omega arith))
 
 pub reports-set : (rs : List ℕ) (a v : ℕ) → ltb 14 v ≡ false → reportsGood rs ≡ true → reportsGood (set rs a v) ≡ true
@@ -118,8 +118,8 @@ unfolding reportsGood
 reports-four rs g = eqb-true _ _ (and-l _ _ g)
 
 -- ---- what a kept report says is what was reported
-report-says : (b b′ c : ℕ) → b ≤ 6 → b′ ≤ 6 → reportIs b′ (reportOn b c) ≡ eqb b b′
-unfolding reportIs reportOn
+report-says : (b b′ c : ℕ) → b ≤ 6 → b′ ≤ 6 → reportIs b′ (reportNumber b c) ≡ eqb b b′
+unfolding reportIs reportNumber
 report-says b b′ c h h′ = test (eqb c 1)
     (λ y. rw (pick-true {A = ℕ} (eqb c 1) (8 + b) (1 + b) y) (test (eqb b b′)
     (λ z. let e = eqb-true b b′ z in rw (z, eq-eqb (8 + b) (8 + b′) (omega arith), or-true))
@@ -128,13 +128,13 @@ report-says b b′ c h h′ = test (eqb c 1)
     (λ z. let e = eqb-true b b′ z in rw (z, eq-eqb (1 + b) (1 + b′) (omega arith)))
     (λ z. let e = eqb-false b b′ z in rw (z, ne-eqb (1 + b) (1 + b′) (omega arith), ne-eqb (1 + b) (8 + b′) (omega arith)))))
 
-pub against-says : (b c : ℕ) → b ≤ 6 → isAgainst (reportOn b c) ≡ eqb b 2 || (eqb b 4 || (eqb b 5 || eqb b 6))
+pub against-says : (b c : ℕ) → b ≤ 6 → isAgainst (reportNumber b c) ≡ eqb b 2 || (eqb b 4 || (eqb b 5 || eqb b 6))
 unfolding isAgainst
 against-says b c h = rw (report-says b 2 c h (omega arith), report-says b 4 c h (omega arith), report-says b 5 c h (omega arith), report-says b 6 c h (omega arith))
 
 -- "whether it can start a new transaction", "c = 1 if it can't start"
-pub start-says : (b c : ℕ) → b ≤ 6 → cantStart (reportOn b c) ≡ eqb c 1
-unfolding reportOn
+pub start-says : (b c : ℕ) → b ≤ 6 → cantStart (reportNumber b c) ≡ eqb c 1
+unfolding reportNumber
 start-says b c h = test (eqb c 1)
     (λ y. rw (pick-true {A = ℕ} (eqb c 1) (8 + b) (1 + b) y, y) (le-leb 8 (8 + b) (omega arith)))
     (λ y. rw (pick-false {A = ℕ} (eqb c 1) (8 + b) (1 + b) y, y) (lt-leb 8 (1 + b) (omega arith)))

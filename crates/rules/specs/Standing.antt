@@ -6,7 +6,7 @@ use mathlib.Core.List.{List, [], _∷_}
 use lib.Dec.{eqb}
 use lib.IntN.{ℤ, pos, negsuc}
 use Rattle.rules.specs.History.{Event, sameCode, reportsOn}
-use Rattle.rules.specs.Votes.{reportOn, isVeto, isRolledBack, isMixed, isHazard}
+use Rattle.rules.specs.Votes.{reportNumber, isVeto, isRolledBack, isMixed, isHazard}
 
 -- "veto, rolled back, mixed or hazard"
 unfoldable pub isAgainst : ℕ → Bool
@@ -19,7 +19,7 @@ isDone z = sameCode (pos 0) z || sameCode (negsuc 99) z
 -- "standing is each manager's last accepted 22 with an answer ending in T": manager a's on t, as the record keeps it, or 0
 unfoldable pub standing : List Event → ℕ → ℕ → ℕ
 standing [] t a = 0
-standing (e ∷ h) t a = cond (reportsOn t a e) (reportOn (e .call .b) (e .call .c)) (standing h t a)
+standing (e ∷ h) t a = cond (reportsOn t a e) (reportNumber (e .call .b) (e .call .c)) (standing h t a)
 
 -- "A manager whose standing report says that it can't start": "c = 1 if it can't start"; is manager a such a one
 unfoldable pub stopped : List Event → ℕ → ℕ → Bool

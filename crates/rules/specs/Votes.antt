@@ -14,8 +14,8 @@ use Rattle.rules.specs.declared.Ruled.{Ruled}
 use Rattle.rules.specs.declared.Monitor.{Monitor}
 
 -- ---- a report as the record keeps it: 0 none, 1 + b, or 8 + b where the manager can't start a new transaction
-unfoldable pub reportOn : ℕ → ℕ → ℕ
-reportOn b c = pick (eqb c 1) (8 + b) (1 + b)
+unfoldable pub reportNumber : ℕ → ℕ → ℕ
+reportNumber b c = pick (eqb c 1) (8 + b) (1 + b)
 
 -- is it a report of b
 unfoldable pub reportIs : ℕ → ℕ → Bool
@@ -55,7 +55,7 @@ unfoldable pub reportOf : Monitor → ℕ → ℕ → ℕ → ℕ → Ruled
 reportOf m p a b c =
     ask m (isOwner m p) notAllowedNow
     (ask m (isReport a b c) badReport
-    (valued (withParty m p (reporting (party m p) a (reportOn b c))) 0))
+    (valued (withParty m p (reporting (party m p) a (reportNumber b c))) 0))
 
 -- ---- commit
 -- "The decision is commit when document 01's conditions hold and none vetoed, else rollback."

@@ -11,11 +11,11 @@ pub const TX_INFO_OUTSIDE: i64 = 0;
 pub const TX_INFO_INSIDE: i64 = 1;
 
 pub const TX_ROLLBACK: i64 = -2;
-// partly committed and partly rolled back; perhaps so; heuristically committed
+// partly committed and partly rolled back
 pub const TX_MIXED: i64 = -3;
-
+// it may be so
 pub const TX_HAZARD: i64 = -4;
-
+// heuristically committed
 pub const TX_COMMITTED: i64 = -9;
 
 pub const TX_PROTOCOL_ERROR: i64 = -5;

@@ -16,7 +16,7 @@ use Rattle.rules.specs.Lists.{anyOf}
 use Rattle.rules.specs.Record.{noReports, party, reporting, withParty, ruled, valued}
 use Rattle.rules.specs.Sound.{choicesGood}
 use Rattle.rules.specs.Transaction.{txOf}
-use Rattle.rules.specs.Votes.{reportOn, cantStart, isReport, reportOf}
+use Rattle.rules.specs.Votes.{reportNumber, cantStart, isReport, reportOf}
 use Rattle.rules.specs.Standing.{isAgainst, standing, stopped, someStopped}
 use Rattle.rules.specs.Step.{answeredTo}
 use Rattle.rules.specs.History.{Event, some, ofKind, accepted, answeredBy, sameCode, endsIn, reportsOn, opposes, opposed, standsAgainst}
@@ -51,7 +51,7 @@ pub record Votes (P : ℕ → Party) (h : List Event) : Type 0 where
 -- what the kept reports say is what the standing ones do: f tests a kept report, g the call that made it, and s tells by the history
 -- what g says of each manager's last report
 module _ (f : ℕ → Bool) (g : Event → Bool) (s : List Event → ℕ → ℕ → Bool) (none : f 0 ≡ false)
-    (says : (e : Event) → e .call .b ≤ 6 → f (reportOn (e .call .b) (e .call .c)) ≡ g e)
+    (says : (e : Event) → e .call .b ≤ 6 → f (reportNumber (e .call .b) (e .call .c)) ≡ g e)
     (first : (t a : ℕ) → s [] t a ≡ false)
     (later : (e : Event) (h : List Event) (t a : ℕ) → s (e ∷ h) t a ≡ cond (reportsOn t a e) (g e) (s h t a)) where
   standing-says : (h : List Event) (t a : ℕ) → some isStrange h ≡ false → f (standing h t a) ≡ s h t a
@@ -183,7 +183,7 @@ module _ (m : Monitor) (h : List Event) (c : Call) (f : Fine m) (b : c .party < 
   -- accepted
   module _ (kind : c .kind ≡ 22) (has : Nz (party m (c .party) .owned)) (is : isReport (c .a) (c .b) (c .c) ≡ true) where
     x : Party
-    x = reporting (party m (c .party)) (c .a) (reportOn (c .b) (c .c))
+    x = reporting (party m (c .party)) (c .a) (reportNumber (c .b) (c .c))
 
     m′ : Monitor
     m′ = withParty m (c .party) x
@@ -236,7 +236,7 @@ module _ (m : Monitor) (h : List Event) (c : Call) (f : Fine m) (b : c .party < 
     unfolding x standing
     caller-kept i = test (eqb (c .a) i)
         (λ y. let j : c .a ≡ i = eqb-true _ _ y in rw (reports-here i, y)
-        (ap (λ n. getD (set (party m (c .party) .reports) (c .a) (reportOn (c .b) (c .c))) n 0) (sym j)
+        (ap (λ n. getD (set (party m (c .party) .reports) (c .a) (reportNumber (c .b) (c .c))) n 0) (sym j)
         ∙ getD-set-same (party m (c .party) .reports) (c .a) _ 0 in-range ∙ said))
         (λ y. rw (reports-here i, y)
         (getD-set-other (party m (c .party) .reports) (c .a) i _ 0 (λ j. eqb-false _ _ y (sym j)) ∙ v .kept (c .party) has i))
@@ -244,7 +244,7 @@ module _ (m : Monitor) (h : List Event) (c : Call) (f : Fine m) (b : c .party < 
         in-range : c .a < length (party m (c .party) .reports)
         in-range = let l = leb-true (c .a) 3 (and-l _ _ is) in let n = four in omega arith
 
-        said : reportOn (c .b) (c .c) ≡ reportOn (e′ .call .b) (e′ .call .c)
+        said : reportNumber (c .b) (c .c) ≡ reportNumber (e′ .call .b) (e′ .call .c)
         said = unfold e′ eventOf in refl
 
     knows : isStrange e′ ≡ false
@@ -258,7 +258,7 @@ module _ (m : Monitor) (h : List Event) (c : Call) (f : Fine m) (b : c .party < 
         apart : endsIn (party m q .owned) e′ ≡ false
         apart = unfold endsIn in rw ends (ne-eqb _ _ (λ j. same-false q (c .party) y (unique has q (sym j))))
 
-    votes-yes : Votes (λ q. party (withParty m (c .party) (reporting (party m (c .party)) (c .a) (reportOn (c .b) (c .c)))) q) (eventOf c (valued (withParty m (c .party) (reporting (party m (c .party)) (c .a) (reportOn (c .b) (c .c)))) 0) ∷ h)
+    votes-yes : Votes (λ q. party (withParty m (c .party) (reporting (party m (c .party)) (c .a) (reportNumber (c .b) (c .c)))) q) (eventOf c (valued (withParty m (c .party) (reporting (party m (c .party)) (c .a) (reportNumber (c .b) (c .c)))) 0) ∷ h)
     unfolding e′ m′ x
     votes-yes = record {
       none = λ q. test (same q (c .party))

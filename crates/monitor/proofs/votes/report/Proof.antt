@@ -30,8 +30,8 @@ returns-2 c =
     let own = pick-true _ _ _ (sym (asked .is-owner .ensures) ∙ not-false _ (is-own .if1 .left)) in
     (refused (c .coded2 .ensures) (own ∙ pick-false _ _ _ (not-true _ (c .before .if2 .taken))), s .pre .2)
 
-report-on-requires : tie.Need-report-on-requires
-report-on-requires c κs =
+report-number-requires : tie.Need-report-number-requires
+report-number-requires c κs =
     let a = c .before .before .before .before .args in
     report-b (a .a) (a .b) (a .c) (not-false _ (c .if2 .left))
 
@@ -53,8 +53,8 @@ returns-3 c =
     let a = s .args in
     let m = view (a .s .now) in
     let put = stored .put-party .ensures in
-    let q = ap (λ (x : Party). withParty m (a .p) (reporting x (a .a) (made .report-on .result))) (read .party-at .ensures) in
-    let r = ap (λ (v : ℕ). withParty m (a .p) (reporting (party m (a .p)) (a .a) v)) (made .report-on .ensures) in
+    let q = ap (λ (x : Party). withParty m (a .p) (reporting x (a .a) (made .report-number .result))) (read .party-at .ensures) in
+    let r = ap (λ (v : ℕ). withParty m (a .p) (reporting (party m (a .p)) (a .a) v)) (made .report-number .ensures) in
     let yes = pick-true _ _ _ (sym (asked .is-owner .ensures) ∙ not-false _ (is-own .if1 .left)) ∙ pick-true _ _ _ (not-false _ (known .if2 .left)) in
     (ap₂ ruledBy (c .accept .ensures) (put .0 ∙ q ∙ r) ∙ sym yes, put .1)
 
@@ -67,7 +67,7 @@ report-spec =
     returns
     (λ c κs. search needs)
     returns-2
-    report-on-requires
+    report-number-requires
     (λ c κs. search needs)
     (λ c. search needs)
     element-write-q

@@ -8,7 +8,7 @@ use borrow.Author.Tests.{leb-true}
 use Rattle.rules.specs.Codes.{notAllowedNow, badReport}
 use Rattle.rules.specs.Record.{party, reporting, withParty, valued}
 use Rattle.rules.specs.Sound.{choicesGood}
-use Rattle.rules.specs.Votes.{reportOn, isReport, reportOf}
+use Rattle.rules.specs.Votes.{reportNumber, isReport, reportOf}
 use Rattle.rules.specs.declared.Call.{Call}
 use Rattle.rules.specs.declared.Monitor.{Monitor}
 use Rattle.rules.specs.declared.Party.{Party}
@@ -24,16 +24,16 @@ use Rattle.rules.proofs.History.Walk.Base.{ask-moved, refused, moved-qu
 pub report-b : (a b c : ℕ) → isReport a b c ≡ true → b ≤ 6
 report-b a b c h = leb-true b 6 (and-l _ _ (and-r (leb a 3) _ h))
 
-reporting-good : (x : Party) (a b c : ℕ) → b ≤ 6 → choicesGood x ≡ true → choicesGood (reporting x a (reportOn b c)) ≡ true
+reporting-good : (x : Party) (a b c : ℕ) → b ≤ 6 → choicesGood x ≡ true → choicesGood (reporting x a (reportNumber b c)) ≡ true
 reporting-good x a b c h g =
     let i = and-r (leb (x .opened) 1) _ g in
     let j = and-r (leb (x .control) 1) _ i in
     rw (and-l (leb (x .opened) 1) _ g, and-l (leb (x .control) 1) _ i, and-l (leb (x .rollbackonly) 1) _ j)
-    (reports-set (x .reports) a (reportOn b c) (report-small b c h) (reports-good x g))
+    (reports-set (x .reports) a (reportNumber b c) (report-small b c h) (reports-good x g))
 
 pub report-moved : (m : Monitor) (c : Call) → Fine m → c .party < 16 → c .kind ≡ 22 → Moved m c (reportOf m (c .party) (c .a) (c .b) (c .c))
 unfolding reportOf
-report-moved m c f b e = let x = reporting (party m (c .party)) (c .a) (reportOn (c .b) (c .c)) in
+report-moved m c f b e = let x = reporting (party m (c .party)) (c .a) (reportNumber (c .b) (c .c)) in
     ask-moved (λ _. ask-moved
     (λ h. moved-quiet m c 0 x 22 f b e refl (record {
       good = reporting-good (party m (c .party)) (c .a) (c .b) (c .c) (report-b (c .a) (c .b) (c .c) h);
