@@ -14,6 +14,7 @@ use Rattle.rules.specs.Replies.{fetchOf, cancelOf}
 use Rattle.rules.specs.Conversations.{sendOf, receiveOf, disconnectOf}
 use Rattle.rules.specs.Return.{returnOf, terminateOf}
 use Rattle.rules.specs.Votes.{reportOf}
+use Rattle.rules.specs.Rights.{rightsOf}
 use Rattle.rules.specs.Step.{ruleOf, isKind}
 use Rattle.rules.specs.declared.Monitor.{Monitor}
 use Rattle.rules.specs.declared.Ruled.{Ruled}
@@ -43,6 +44,7 @@ pub record OfEachKind (P : Ruled → Type 0) (m : Monitor) (p k a b c : ℕ) : T
   pub onReturn : k ≡ 20 → P (returnOf m p a c)
   pub onTerminate : k ≡ 21 → P (terminateOf m p)
   pub onReport : k ≡ 22 → P (reportOf m p a b c)
+  pub onRights : k ≡ 23 → P (rightsOf m p a b c)
 
 pub by-kind : (P : Ruled → Type 0) (m : Monitor) (p k a b c : ℕ) → isKind k ≡ true → OfEachKind P m p k a b c → P (ruleOf m p k a b c)
 unfolding ruleOf
@@ -69,11 +71,12 @@ by-kind P m p k a b c h f =
     of-kind 20 above19 (f .onReturn) λ above20.
     of-kind 21 above20 (f .onTerminate) λ above21.
     of-kind 22 above21 (f .onReport) λ above22.
-    absurd (none (leb-true k 22 (and-r (leb 1 k) _ h)) above22)
+    of-kind 23 above22 (f .onRights) λ above23.
+    absurd (none (leb-true k 23 (and-r (leb 1 k) _ h)) above23)
   where
     -- it is i, or above it
     of-kind : (i : ℕ) {x y : Ruled} → i ≤ k → (k ≡ i → P x) → (suc i ≤ k → P y) → P (pick (eqb k i) x y)
     of-kind i le g rest = byTest P (λ e. g (eqb-true k i e)) (λ n. rest (let d = eqb-false k i n in omega arith))
 
-    none : k ≤ 22 → 23 ≤ k → ⊥
+    none : k ≤ 23 → 24 ≤ k → ⊥
     none x y = omega arith

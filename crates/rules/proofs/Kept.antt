@@ -51,7 +51,7 @@ module _ (m : Monitor) (s : SoundRecord m) (c : Call) where
   pub clock-sound-kept : SoundRecord (advanced m (c .clock))
   clock-sound-kept = of-fine fine₀
 
-  rule-kept : isKind (c .kind) ≡ true → c .party < 16
+  pub rule-kept : isKind (c .kind) ≡ true → c .party < 16
       → Moved (advanced m (c .clock)) c (ruleOf (advanced m (c .clock)) (c .party) (c .kind) (c .a) (c .b) (c .c))
   rule-kept k p = rule-moved (advanced m (c .clock)) c fine₀ p k
 

@@ -15,3 +15,5 @@ pub mod Kept
 pub mod AnyReply
 pub mod Marked
 pub mod Voted
+pub mod Rights
+pub mod Permitted

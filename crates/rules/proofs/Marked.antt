@@ -17,7 +17,7 @@ use Rattle.rules.specs.Transaction.{servedTx, txOf, ended, expired, isOw
 use Rattle.rules.specs.States.{stateOf, nextOf, inState, entered}
 use Rattle.rules.specs.Tx.{openOf, closeOf, beginOf, goOn, commitOf, timeoutOf}
 use Rattle.rules.specs.Votes.{reportIs, decides, someCommitted, someRolledBack, voteCode, codeAfter, commitCode, allCanStart}
-use Rattle.rules.specs.Services.{inSet, offers, countTo, offered, withService, offersNow, advertiseOf}
+use Rattle.rules.specs.Services.{inSet, offers, mayRequest, mayAdvertise, countTo, offered, withService, offersNow, advertiseOf}
 use Rattle.rules.specs.Requests.{linkTx, askLink, requestOf, connectOf}
 use Rattle.rules.specs.Replies.{requestEnd, cancelOf}
 use Rattle.rules.specs.Conversations.{originatorEnd, serverEnd, anyEnd, hearsDisconnect, hearsReturn, endSide, isSender, sendOn, sendOf}
@@ -126,7 +126,7 @@ holds-right e h =
 pub marked-holds : (k : ℕ) → k < length marked → Holds (getD marked k freshBegin)
 unfolding every right pick same noBegin firstOf anyOf collect blanks numbered owns ownEnd linkOf changed goneOf removed servedTx txOf ended expired
     isOwner deadlineOf beginTx orphaned endOf endTx isOpenOf canCommit stateOf nextOf inState entered openOf closeOf beginOf goOn reportIs decides
-    someCommitted someRolledBack voteCode codeAfter commitCode allCanStart commitOf timeoutOf inSet offers countTo offered withService offersNow
+    someCommitted someRolledBack voteCode codeAfter commitCode allCanStart commitOf timeoutOf inSet offers mayRequest mayAdvertise countTo offered withService offersNow
     advertiseOf linkTx askLink requestOf connectOf requestEnd cancelOf originatorEnd serverEnd anyEnd hearsDisconnect hearsReturn endSide isSender
     sendOn sendOf reportsGood linksGood worksFor partyGood partiesGood sound ruleOf laterOf answeredTo turnedDown callOf callAt placesOf ranOf
     answersOf listOf

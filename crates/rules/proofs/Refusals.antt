@@ -11,12 +11,13 @@ use lib.IntN.{ℤ, pos}
 use Rattle.rules.specs.Choice.{pick}
 use Rattle.rules.specs.Codes.{txOk, txProtocolError, txError, txEinval, noBegin, unsound, unknownKind, unknownParty}
 use Rattle.rules.specs.Codes.{badArgument, notAllowedNow, noSuchEnd, notOffered, noRoomLeft, inTransaction}
-use Rattle.rules.specs.Codes.{timedOut, nothingWaiting, noReplyYet, nothingUnread, unreadFull, badReport}
+use Rattle.rules.specs.Codes.{timedOut, nothingWaiting, noReplyYet, nothingUnread, unreadFull, badReport, notPermitted}
 use Rattle.rules.specs.Record.{linkOf, ruled, ask}
 use Rattle.rules.specs.Transaction.{servedTx, txOf}
 use Rattle.rules.specs.Tx.{openOf, closeOf, beginOf, goOn, commitOf, rollbackOf, infoOf, commitReturnOf, controlOf, timeoutOf}
 use Rattle.rules.specs.Votes.{voteCode, commitCode, reportOf}
 use Rattle.rules.specs.Services.{offersNow, advertiseOf, unadvertiseOf}
+use Rattle.rules.specs.Rights.{rightsOf}
 use Rattle.rules.specs.Requests.{askLink, requestOf, connectOf, dispatched, dispatchOf}
 use Rattle.rules.specs.Replies.{outcomeCode, fetched, fetchOne, fetchAny, fetchOf, cancelOf}
 use Rattle.rules.specs.Conversations.{tellsDisconnect, tellsReturn, sendOn, sendOf, received, receiveOn, receiveOf, disconnectOf}
@@ -117,17 +118,17 @@ module _ (m : Monitor) (p : ℕ) where
 
     advertise-decided : Decided m (advertiseOf m p a)
     unfolding advertiseOf isOutcome isRefusal isEarly
-    advertise-decided = asks (λ _. asks (λ _. offers-decided _) (λ _. no noRoomLeft refl)) (λ _. no badArgument refl)
+    advertise-decided = asks (λ _. asks (λ _. asks (λ _. offers-decided _) (λ _. no noRoomLeft refl)) (λ _. no notPermitted refl)) (λ _. no badArgument refl)
 
     unadvertise-decided : Decided m (unadvertiseOf m p a)
     unfolding unadvertiseOf isOutcome isRefusal isEarly
     unadvertise-decided = asks (λ _. asks (λ _. offers-decided _) (λ _. no notOffered refl)) (λ _. no badArgument refl)
 
-    link-decided : (t : ℕ) {rest : Ruled} → Decided m rest → Decided m (askLink m t a rest)
+    link-decided : (t : ℕ) {rest : Ruled} → Decided m rest → Decided m (askLink m p t a rest)
     unfolding askLink isRefusal isEarly
     link-decided t d =
-        asks (λ _. asks (λ _. asks (λ _. asks (λ _. d)
-        (λ _. no noRoomLeft refl)) (λ _. no notOffered refl)) (λ _. no timedOut refl)) (λ _. no notAllowedNow refl)
+        asks (λ _. asks (λ _. asks (λ _. asks (λ _. asks (λ _. d)
+        (λ _. no noRoomLeft refl)) (λ _. no notOffered refl)) (λ _. no timedOut refl)) (λ _. no notAllowedNow refl)) (λ _. no notPermitted refl)
 
     fetch-decided : (b : ℕ) → Decided m (fetchOf m p a b)
     unfolding fetchOf fetchAny fetchOne fetched isOutcome isRefusal isEarly
@@ -176,6 +177,10 @@ module _ (m : Monitor) (p : ℕ) where
       unfolding reportOf isOutcome isRefusal isEarly
       report-decided = asks (λ _. asks (λ _. does refl) (λ _. no badReport refl)) (λ _. no notAllowedNow refl)
 
+      rights-decided : Decided m (rightsOf m p a b c)
+      unfolding rightsOf isOutcome isRefusal isEarly
+      rights-decided = asks (λ _. asks (λ _. does refl) (λ _. no badArgument refl)) (λ _. no notPermitted refl)
+
       each-decided : (k : ℕ) → OfEachKind (Decided m) m p k a b c
       each-decided k = record {
         onOpen = λ _. open-decided;
@@ -200,6 +205,7 @@ module _ (m : Monitor) (p : ℕ) where
         onReturn = λ _. return-decided c;
         onTerminate = λ _. terminate-decided;
         onReport = λ _. report-decided;
+        onRights = λ _. rights-decided;
       }
 
 -- ---- past question 21

@@ -122,6 +122,10 @@ noSuchSequence = pos 33
 abbrev pub badReport : ℤ
 badReport = pos 34
 
+-- ---- refusal of a party without the right to call it
+abbrev pub notPermitted : ℤ
+notPermitted = pos 35
+
 -- ---- accepted by the XATMI kinds
 abbrev pub tpAccepted : ℤ
 tpAccepted = pos 0

@@ -21,7 +21,7 @@ unfoldable pub sameParty : Party → Party → Bool
 sameParty x y =
     same (x .opened) (y .opened) && (same (x .control) (y .control) && (same (x .timeout) (y .timeout) && (same (x .services) (y .services)
     && (same (x .owned) (y .owned) && (same (x .deadline) (y .deadline) && (same (x .rollbackonly) (y .rollbackonly) && (same (x .served) (y .served)
-    && allSame same (x .reports) (y .reports))))))))
+    && (allSame same (x .reports) (y .reports) && (same (x .mayrequest) (y .mayrequest) && same (x .mayadvertise) (y .mayadvertise))))))))))
 
 -- all fields alike, unread compared by how many
 unfoldable pub sameLink : Link → Link → Bool

@@ -8,6 +8,7 @@ pub mod Standing
 pub mod States
 pub mod Tx
 pub mod Services
+pub mod Rights
 pub mod Requests
 pub mod Replies
 pub mod Conversations

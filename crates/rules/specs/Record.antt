@@ -18,9 +18,26 @@ use Rattle.rules.specs.declared.Monitor.{Monitor}
 abbrev pub noReports : List ℕ
 noReports = replicate 4 0
 
--- ---- "A fresh monitor and a fresh party have all zero, empty and not opened."
+-- the services 1 to 64
+abbrev pub allServices : ℕ
+allServices = 18446744073709551615
+
+-- ---- "A fresh monitor and a fresh party have all zero, empty and not opened."; "fresh parties may do all, so both sets are full
+-- there, the one exception to all zero" (document 02)
 abbrev pub freshParty : Party
-freshParty = record { opened = 0; control = 0; timeout = 0; services = 0; owned = 0; deadline = 0; rollbackonly = 0; served = 0; reports = noReports }
+freshParty = record {
+  opened = 0;
+  control = 0;
+  timeout = 0;
+  services = 0;
+  owned = 0;
+  deadline = 0;
+  rollbackonly = 0;
+  served = 0;
+  reports = noReports;
+  mayrequest = allServices;
+  mayadvertise = allServices;
+}
 
 abbrev pub freshLink : Link
 freshLink = record {
@@ -120,7 +137,7 @@ unfoldable pub linkOf : Monitor → ℕ → Link
 linkOf m n = getD (live m) (placeOf m n) freshLink
 
 -- ---- what all changes are made of: each writes the fields of one topic out, and the others stay
--- a party: what it has set; the transaction and the link that it works for; what the resource managers reported
+-- a party: what it has set; the transaction and the link that it works for; what the resource managers reported; what it may do
 abbrev pub withSettings : Party → (opened control timeout services : ℕ) → Party
 withSettings q opened control timeout services = record {
   opened = opened;
@@ -132,6 +149,8 @@ withSettings q opened control timeout services = record {
   rollbackonly = q .rollbackonly;
   served = q .served;
   reports = q .reports;
+  mayrequest = q .mayrequest;
+  mayadvertise = q .mayadvertise;
 }
 
 abbrev pub withWork : Party → (owned deadline rollbackonly served : ℕ) → Party
@@ -145,6 +164,8 @@ withWork q owned deadline rollbackonly served = record {
   rollbackonly = rollbackonly;
   served = served;
   reports = q .reports;
+  mayrequest = q .mayrequest;
+  mayadvertise = q .mayadvertise;
 }
 
 abbrev pub withReports : Party → List ℕ → Party
@@ -158,6 +179,23 @@ withReports q reports = record {
   rollbackonly = q .rollbackonly;
   served = q .served;
   reports = reports;
+  mayrequest = q .mayrequest;
+  mayadvertise = q .mayadvertise;
+}
+
+abbrev pub withRights : Party → (mayrequest mayadvertise : ℕ) → Party
+withRights q mayrequest mayadvertise = record {
+  opened = q .opened;
+  control = q .control;
+  timeout = q .timeout;
+  services = q .services;
+  owned = q .owned;
+  deadline = q .deadline;
+  rollbackonly = q .rollbackonly;
+  served = q .served;
+  reports = q .reports;
+  mayrequest = mayrequest;
+  mayadvertise = mayadvertise;
 }
 
 -- a link: what it is made with; how far its service is; its ends; who may send, and what is unread

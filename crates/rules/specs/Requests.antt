@@ -5,14 +5,14 @@ use mathlib.Core.Bool.{Bool, not, _&&_}
 use lib.ListN.{getD}
 use lib.Dec.{eqb, ltb, leb}
 use Rattle.rules.specs.Choice.{pick}
-use Rattle.rules.specs.Codes.{badArgument, notAllowedNow, notOffered, noRoomLeft, timedOut, nothingWaiting}
+use Rattle.rules.specs.Codes.{badArgument, notAllowedNow, notOffered, noRoomLeft, timedOut, nothingWaiting, notPermitted}
 use Rattle.rules.specs.Codes.{tpAccepted, requestDispatched, receiverDispatched}
 use Rattle.rules.specs.Codes.{senderDispatched, tpNoReply, tpNoTran, tpSendOnly, tpRecvOnly}
 use Rattle.rules.specs.Lists.{firstOf, anyOf}
 use Rattle.rules.specs.Record.{freshLink, isOpened, isRequest, isWaiting, ownEnd, party, live, serving, newLink}
 use Rattle.rules.specs.Record.{working, withParty, replaced, added, valued, ask}
 use Rattle.rules.specs.Transaction.{txOf, ended, expired}
-use Rattle.rules.specs.Services.{isService, offers}
+use Rattle.rules.specs.Services.{isService, offers, mayRequest}
 use Rattle.rules.specs.declared.Ruled.{Ruled}
 use Rattle.rules.specs.declared.Party.{Party}
 use Rattle.rules.specs.declared.Link.{Link}
@@ -45,14 +45,16 @@ linkTx m p b = pick (noTran b) 0 (txOf m p)
 abbrev pub linkLeft : Monitor → Bool
 linkLeft m = ltb (m .count) 32 && ltb (m .lastlink) 60000
 
--- the questions after the flags, for a link of the transaction t (0 none) to service a
-unfoldable pub askLink : Monitor → ℕ → ℕ → Ruled → Ruled
-askLink m t a rest =
-    ask m (not (ended m t)) notAllowedNow
+-- the questions after the flags, for party p's link of the transaction t (0 none) to service a; "not permitted is 35, which comes
+-- after 22"
+unfoldable pub askLink : Monitor → ℕ → ℕ → ℕ → Ruled → Ruled
+askLink m p t a rest =
+    ask m (mayRequest a (party m p)) notPermitted
+    (ask m (not (ended m t)) notAllowedNow
     (ask m (not (expired m t)) timedOut
     (ask m (anyOf (offers a) (m .parties)) notOffered
     (ask m (linkLeft m) noRoomLeft
-    rest)))
+    rest))))
 
 -- 12 request a, flags b (1 no reply, 2 no transaction), token c: service and flags good, and no bare 1 in T? 22
 abbrev pub isBareNoReply : ℕ → Bool
@@ -61,7 +63,7 @@ isBareNoReply b = eqb b tpNoReply
 unfoldable pub requestOf : Monitor → ℕ → ℕ → ℕ → ℕ → Ruled
 requestOf m p a b c =
     ask m (isService a && (leb b 3 && not (isBareNoReply b && not (eqb (txOf m p) 0)))) badArgument
-    (askLink m (linkTx m p b) a
+    (askLink m p (linkTx m p b) a
     (valued
     (added m (newLink (m .lastlink + 1) 0 p (pick (noReply b) 0 1) a (linkTx m p b) c 0))
     (pick (noReply b) 0 (m .lastlink + 1))))
@@ -70,7 +72,7 @@ requestOf m p a b c =
 unfoldable pub connectOf : Monitor → ℕ → ℕ → ℕ → ℕ → Ruled
 connectOf m p a b c =
     ask m (isService a && connectFlags b) badArgument
-    (askLink m (linkTx m p b) a
+    (askLink m p (linkTx m p b) a
     (valued
     (added m (newLink (m .lastlink + 1) 1 p 1 a (linkTx m p b) c (pick (recvOnly b) 1 0)))
     (m .lastlink + 1)))

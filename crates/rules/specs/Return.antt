@@ -8,7 +8,7 @@ use Rattle.rules.specs.Choice.{pick}
 use Rattle.rules.specs.Codes.{badArgument, notAllowedNow, tpevSvcErr, tpevSvcFail, tpevSvcSucc, tpSuccess, tpFail}
 use Rattle.rules.specs.Lists.{anyOf, collect}
 use Rattle.rules.specs.Record.{freshParty, isConversation, isAttached, isWorking, isReturned, isServerFree, ownEnd, party, live, linkOf}
-use Rattle.rules.specs.Record.{serving, closed, dropped, disconnectedLink, returned, withParties, withParty, rebuilt, changed, removed, valued}
+use Rattle.rules.specs.Record.{serving, closed, dropped, disconnectedLink, returned, withRights, withParties, withParty, rebuilt, changed, removed, valued}
 use Rattle.rules.specs.Record.{ask}
 use Rattle.rules.specs.Transaction.{rollbackOnlyIn, rollbackOnlyTx, endTx}
 use Rattle.rules.specs.Conversations.{originatorEnd}
@@ -96,9 +96,9 @@ returnOf m p a c =
 unfoldable pub diedOut : Monitor → ℕ → Monitor
 diedOut m p = pick (eqb (party m p .served) 0) (endOwn (closeOwn m p) p) (leave m p (party m p .served) tpevSvcErr 0)
 
--- "the party is fresh", by what it was
+-- "the party is fresh", by what it was; "fall does not reset the sets"
 abbrev pub afterDeath : Party → Party
-afterDeath q = freshParty
+afterDeath q = withRights freshParty (q .mayrequest) (q .mayadvertise)
 
 unfoldable pub terminateOf : Monitor → ℕ → Ruled
 terminateOf m p =

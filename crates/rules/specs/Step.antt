@@ -15,6 +15,7 @@ use Rattle.rules.specs.Replies.{fetchOf, cancelOf}
 use Rattle.rules.specs.Conversations.{sendOf, receiveOf, disconnectOf}
 use Rattle.rules.specs.Return.{returnOf, terminateOf}
 use Rattle.rules.specs.Votes.{reportOf}
+use Rattle.rules.specs.Rights.{rightsOf}
 use Rattle.rules.specs.Sound.{sound}
 use Rattle.rules.specs.declared.Ruled.{Ruled}
 use Rattle.rules.specs.declared.Call.{Call}
@@ -46,11 +47,12 @@ ruleOf m p k a b c =
     (pick (eqb k 20) (returnOf m p a c)
     (pick (eqb k 21) (terminateOf m p)
     (pick (eqb k 22) (reportOf m p a b c)
-    (ruled m unknownKind))))))))))))))))))))))
+    (pick (eqb k 23) (rightsOf m p a b c)
+    (ruled m unknownKind)))))))))))))))))))))))
 
--- "Kind 1 to 21?", and 22: "question 20 admits each kind as it is added"
+-- "Kind 1 to 21?", and 22 and 23: "question 20 admits each kind as it is added"
 abbrev pub isKind : ℕ → Bool
-isKind k = leb 1 k && leb k 22
+isKind k = leb 1 k && leb k 23
 
 -- "the clock becomes the greater of its own and the call's"
 unfoldable pub laterOf : ℕ → ℕ → ℕ

@@ -76,6 +76,9 @@ pub const NO_SUCH_SEQUENCE: i64 = 33;
 // ---- refusal of a resource manager's report
 pub const BAD_REPORT: i64 = 34;
 
+// ---- refusal of a party without the right
+pub const NOT_PERMITTED: i64 = 35;
+
 // ---- accepted by the XATMI kinds
 pub const TP_ACCEPTED: i64 = 0;
 // an event came, which the answer names

@@ -25,6 +25,9 @@ pub struct Party {
     // what each resource manager reported of the owned transaction: 0 none, 1 + b, or 8 + b where it can't start a new one;
     // b is 0 prepared, 1 read-only, 2 veto, 3 committed, 4 rolled back, 5 mixed, 6 hazard
     pub reports: [u32; 4],
+    // the services that it may request, and that it may advertise, service n as bit n - 1; the only fields that are not 0 when fresh
+    pub mayrequest: u64,
+    pub mayadvertise: u64,
 }
 
 // A request or a conversation between its originator and the party that serves it.
@@ -111,6 +114,8 @@ pub struct Stepped {
 impl Party {
     // how many services it can offer
     pub const SERVICES: u32 = 8;
+    // all services that there are, as a set
+    pub const ALL_SERVICES: u64 = 18446744073709551615;
     // the longest timeout, in seconds
     pub const TIMEOUT: u32 = 2147483647;
 
@@ -127,6 +132,8 @@ impl Party {
             rollbackonly: 0,
             served: 0,
             reports: [0; 4],
+            mayrequest: Party::ALL_SERVICES,
+            mayadvertise: Party::ALL_SERVICES,
         }
     }
 }

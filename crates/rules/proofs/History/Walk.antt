@@ -10,6 +10,7 @@ pub mod Parting
 pub mod Requests
 pub mod Replies
 pub mod Return
+pub mod Rights
 pub mod Says
 pub mod Services
 pub mod States

@@ -16,6 +16,7 @@ use Rattle.rules.proofs.History.Walk.Requests.{request-moved, connect-m
 use Rattle.rules.proofs.History.Walk.Replies.{fetch-moved, cancel-moved}
 use Rattle.rules.proofs.History.Walk.Conversations.{send-moved, receive-moved, disconnect-moved}
 use Rattle.rules.proofs.History.Walk.Votes.{report-moved}
+use Rattle.rules.proofs.History.Walk.Rights.{rights-moved}
 use Rattle.rules.proofs.History.Walk.Return.{return-moved, terminate-moved}
 
 pub rule-moved : (m : Monitor) (c : Call) → Fine m → c .party < 16 → isKind (c .kind) ≡ true → Moved m c (ruleOf m (c .party) (c .kind) (c .a) (c .b) (c .c))
@@ -42,4 +43,5 @@ rule-moved m c f p k = by-kind (Moved m c) m (c .party) (c .kind) (c .a) (c .b) 
   onReturn = return-moved m c f p;
   onTerminate = terminate-moved m c f p;
   onReport = report-moved m c f p;
+  onRights = rights-moved m c f;
 })

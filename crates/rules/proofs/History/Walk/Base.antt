@@ -9,6 +9,7 @@ use lib.ListN.{set}
 use lib.Seq.{getD-set-same, getD-set-other}
 use Rattle.rules.specs.Choice.{pick, same}
 use Rattle.rules.specs.Record.{freshParty, isOpened, party, live, withParty, ruled, valued, ask}
+use Rattle.rules.specs.Rights.{SameRights}
 use Rattle.rules.specs.Sound.{choicesGood}
 use Rattle.rules.specs.History.{sameCode}
 use Rattle.rules.specs.declared.Call.{Call}
@@ -64,18 +65,28 @@ pub marks-stay : (x y : Party) → Marks x y → Stays x y
 marks-stay x y (plain e) = rw e (stays-self x)
 marks-stay x y (marked e) = rw e (record { opened′ = refl; timeout′ = refl; owned′ = refl; deadline′ = refl; served′ = refl; reports′ = refl })
 
+-- ---- rights that stay
+pub rights-self : (x : Party) → SameRights x x
+rights-self x = (refl, refl)
+
+pub marks-rights : (x y : Party) → Marks x y → SameRights x y
+marks-rights x y (plain e) = rw e (rights-self x)
+marks-rights x y (marked e) = rw e (refl, refl)
+
 pub idle-parties : (m m′ : Monitor) → m′ .parties ≡ m .parties → IdleTo m m′
 idle-parties m m′ e = record { owned′ = λ q. rw e; served′ = λ q. rw e; mark′ = λ q. rw e }
 
 -- ---- every party stays, the caller too
 pub moved-stays : (m : Monitor) (c : Call) (r : Ruled) (t : Tell) → Frame (r .monitor) → r .monitor .clock ≡ m .clock
-    → ((q : ℕ) → Stays (party m q) (party (r .monitor) q)) → ((q : ℕ) → choicesGood (party m q) ≡ true → choicesGood (party (r .monitor) q) ≡ true)
+    → ((q : ℕ) → Stays (party m q) (party (r .monitor) q)) → (eqb (c .kind) 23 ≡ false → (q : ℕ) → SameRights (party m q) (party (r .monitor) q))
+    → ((q : ℕ) → choicesGood (party m q) ≡ true → choicesGood (party (r .monitor) q) ≡ true)
     → timeAfter (eventOf c r) (party m (c .party) .timeout) ≡ party m (c .party) .timeout → Says c r t → MoveTo m c (r .monitor) t → Moved m c r
-moved-stays m c r t f k st g h s v = record {
+moved-stays m c r t f k st ri g h s v = record {
   frame = f;
   clock′ = k;
   choices = g;
   others = λ q _. st q;
+  rights = ri;
   own = keeps (st (c .party) .owned′) (st (c .party) .deadline′) (λ _. st (c .party) .reports′);
   timeout′ = st (c .party) .timeout′ ∙ sym h;
   opened′ = λ o n. rw (st (c .party) .opened′) (o (rw (st (c .party) .owned′) at n));
@@ -89,7 +100,7 @@ moved-stays m c r t f k st g h s v = record {
 -- rules on links alone
 pub moved-links : (m : Monitor) (c : Call) (r : Ruled) (t : Tell) → Frame (r .monitor) → r .monitor .clock ≡ m .clock → r .monitor .parties ≡ m .parties
     → timeAfter (eventOf c r) (party m (c .party) .timeout) ≡ party m (c .party) .timeout → Says c r t → MoveTo m c (r .monitor) t → Moved m c r
-moved-links m c r t f k e h s v = moved-stays m c r t f k (λ q. rw e (stays-self (party m q))) (λ q g. rw e g) h s v
+moved-links m c r t f k e h s v = moved-stays m c r t f k (λ q. rw e (stays-self (party m q))) (λ _ q. rw e (rights-self (party m q))) (λ q g. rw e g) h s v
 
 -- ---- nothing changes
 unmoved : {m : Monitor} {c : Call} (code : ℤ) → Fine m → timeAfter (eventOf c (ruled m code)) (party m (c .party) .timeout) ≡ party m (c .party) .timeout
@@ -140,17 +151,18 @@ own-idle {m} o a b c = record {
 }
 
 pub moved-own : (m : Monitor) (c : Call) (r : Ruled) (x : Party) (t : Tell) → Frame (r .monitor) → r .monitor .clock ≡ m .clock
-    → OwnOnly m (r .monitor) (c .party) x
+    → OwnOnly m (r .monitor) (c .party) x → SameRights (party m (c .party)) x
     → (choicesGood (party m (c .party)) ≡ true → choicesGood x ≡ true)
     → Own m (c .kind) (party m (c .party)) x
     → x .timeout ≡ timeAfter (eventOf c r) (party m (c .party) .timeout)
     → ((Nz (party m (c .party) .owned) → isOpened (party m (c .party)) ≡ true) → Nz (x .owned) → isOpened x ≡ true)
     → Says c r t → MoveTo m c (r .monitor) t → Moved m c r
-moved-own m c r x t f k o g w i n s v = record {
+moved-own m c r x t f k o ri g w i n s v = record {
   frame = f;
   clock′ = k;
   choices = own-all (λ q y. choicesGood (party m q) ≡ true → choicesGood y ≡ true) o g (λ _ h. h);
   others = λ q e. rw (o .there q e) (stays-self (party m q));
+  rights = λ _. own-all (λ q y. SameRights (party m q) y) o ri (λ q. rights-self (party m q));
   own = rw (o .here) w;
   timeout′ = rw (o .here) i;
   opened′ = λ a b. rw (o .here) (n a (rw (o .here) at b));
@@ -169,6 +181,7 @@ pub record Quietly (m : Monitor) (c : Call) (v : ℕ) (x : Party) : Type 0 where
   pub mark′ : x .rollbackonly ≡ party m (c .party) .rollbackonly
   pub served′ : x .served ≡ party m (c .party) .served
   pub reports′ : eqb (c .kind) 22 ≡ false → x .reports ≡ party m (c .party) .reports
+  pub rights′ : SameRights (party m (c .party)) x
   pub time′ : x .timeout ≡ timeAfter (eventOf c (valued (withParty m (c .party) x) v)) (party m (c .party) .timeout)
   pub opened′ : (Nz (party m (c .party) .owned) → isOpened (party m (c .party)) ≡ true) → Nz (x .owned) → isOpened x ≡ true
 
@@ -177,19 +190,21 @@ pub moved-quiet : (m : Monitor) (c : Call) (v : ℕ) (x : Party) (k : ℕ) → F
 moved-quiet m c v x k f b e h w =
     let r = valued (withParty m (c .party) x) v in
     let o : OwnOnly m (withParty m (c .party) x) (c .party) x = own-set m (withParty m (c .party) x) (c .party) x (f .frame .shape) b refl in
-    moved-own m c r x nothing (party-frame m (f .frame .shape) (c .party) b x (f .frame)) refl o
+    moved-own m c r x nothing (party-frame m (f .frame .shape) (c .party) b x (f .frame)) refl o (w .rights′)
     (w .good) (keeps (w .owned′) (w .deadline′) (w .reports′)) (w .time′) (w .opened′) (says-accepted c r refl (tells-plain c r k e h))
     (quiet (record { link = refl; tx = refl }) (own-idle o (w .owned′) (w .served′) (w .mark′)) (λ _. like-refl refl) (λ _. refl))
 
 -- ---- the same of party i, the caller or another, that stays and keeps its mark
 pub moved-party : (m : Monitor) (c : Call) (v i : ℕ) (x : Party) (k : ℕ) → Fine m → i < 16 → c .kind ≡ k → isPlain k ≡ true → isTimed k ≡ false
-    → Stays (party m i) x → x .rollbackonly ≡ party m i .rollbackonly → (choicesGood (party m i) ≡ true → choicesGood x ≡ true)
+    → Stays (party m i) x → (eqb (c .kind) 23 ≡ false → SameRights (party m i) x) → x .rollbackonly ≡ party m i .rollbackonly
+    → (choicesGood (party m i) ≡ true → choicesGood x ≡ true)
     → Moved m c (valued (withParty m i x) v)
-moved-party m c v i x k f b e h u st mk g =
+moved-party m c v i x k f b e h u st ri mk g =
     let r = valued (withParty m i x) v in
     let o : OwnOnly m (withParty m i x) i x = own-set m (withParty m i x) i x (f .frame .shape) b refl in
     moved-stays m c r nothing (party-frame m (f .frame .shape) i b x (f .frame)) refl
     (own-all (λ q y. Stays (party m q) y) o st (λ q. stays-self (party m q)))
+    (λ n. own-all (λ q y. SameRights (party m q) y) o (ri n) (λ q. rights-self (party m q)))
     (own-all (λ q y. choicesGood (party m q) ≡ true → choicesGood y ≡ true) o g (λ _ y. y))
     (time-kept c r _ k e u) (says-accepted c r refl (tells-plain c r k e h))
     (quiet (record { link = refl; tx = refl }) (own-idle o (st .owned′) (st .served′) mk) (λ _. like-refl refl) (λ _. refl))

@@ -31,7 +31,7 @@ use Rattle.rules.proofs.History.Left.{like-refl}
 use Rattle.rules.proofs.History.Walk.Moved.{Stays, Moved}
 use Rattle.rules.proofs.History.Walk.Says.{Says, isTimed, says-sent, says-received, says-given, says-ended, says-notified, says-disconnected, time-kept}
 use Rattle.rules.proofs.History.Walk.Base.{MoveTo, KeptTo, IdleTo, ask-moved, pick-moved, refused, idle-parties}
-use Rattle.rules.proofs.History.Walk.Base.{moved-stays, moved-links, marks-stay, replied}
+use Rattle.rules.proofs.History.Walk.Base.{moved-stays, moved-links, marks-stay, marks-rights, replied}
 use Rattle.rules.proofs.History.Walk.LinkChanges.{returned-ending, returned-rests, working-waits-not, notified-like}
 use Rattle.rules.proofs.History.Walk.LinkChanges.{withSent-like, withoutOldest-like, disconnectedLink-left}
 use Rattle.rules.proofs.History.Walk.Requests.{Found, found, changed-kept, finish-moved}
@@ -228,7 +228,7 @@ module _ (m : Monitor) (c : Call) (fine : Fine m) (k : c .kind ≡ 19) (was : is
       → ((e : ℕ) → same e (c .a) ≡ false → look e (live m′) ≡ look e (live m))
       → Moved m c (valued m′ 0)
   disconnects-moved fr ck kept left works others =
-      moved-stays m c (valued m′ 0) (disconnected (c .a)) fr ck stays (λ q. marks-good _ _ (marks q)) (time-kept c _ _ 19 k refl) (says-disconnected c _ k refl)
+      moved-stays m c (valued m′ 0) (disconnected (c .a)) fr ck stays (λ _ q. marks-rights _ _ (marks q)) (λ q. marks-good _ _ (marks q)) (time-kept c _ _ 19 k refl) (says-disconnected c _ k refl)
       (Move.disconnects kept (c .a) (record {
         was = was;
         there = th;

@@ -7,6 +7,7 @@ use lib.Dec.{eqb}
 use Rattle.rules.specs.Choice.{same}
 use Rattle.rules.specs.Record.{isOpened, party, live}
 use Rattle.rules.specs.Transaction.{deadlineOf}
+use Rattle.rules.specs.Rights.{SameRights}
 use Rattle.rules.specs.Sound.{choicesGood}
 use Rattle.rules.specs.Step.{answeredTo}
 use Rattle.rules.specs.History.{Event, ofKind, accepted, past21}
@@ -49,6 +50,7 @@ pub record Moved (m : Monitor) (c : Call) (r : Ruled) : Type 0 where
   pub clock′ : r .monitor .clock ≡ m .clock
   pub choices : (q : ℕ) → choicesGood (party m q) ≡ true → choicesGood (party (r .monitor) q) ≡ true
   pub others : (q : ℕ) → same q (c .party) ≡ false → Stays (party m q) (party (r .monitor) q)
+  pub rights : eqb (c .kind) 23 ≡ false → (q : ℕ) → SameRights (party m q) (party (r .monitor) q)
   pub own : Own m (c .kind) (party m (c .party)) (party (r .monitor) (c .party))
   pub timeout′ : party (r .monitor) (c .party) .timeout ≡ timeAfter (eventOf c r) (party m (c .party) .timeout)
   pub opened′ : (Nz (party m (c .party) .owned) → isOpened (party m (c .party)) ≡ true)

@@ -9,7 +9,7 @@ use lib.Dec.{eqb, leb, ltb}
 use lib.ListN.{getD}
 use borrow.Author.Tests.{eqb-true, eqb-false, leb-true, ltb-true}
 use Rattle.rules.specs.Choice.{pick, same}
-use Rattle.rules.specs.Codes.{badArgument, notAllowedNow, notOffered, noRoomLeft, timedOut, nothingWaiting}
+use Rattle.rules.specs.Codes.{badArgument, notAllowedNow, notOffered, noRoomLeft, timedOut, nothingWaiting, notPermitted}
 use Rattle.rules.specs.Record.{freshLink, isAttached, isWaiting, isWorking, ownEnd, party, live, linkOf, withParty, replaced}
 use Rattle.rules.specs.Record.{changed, removed, added, valued, serving, newLink, working}
 use Rattle.rules.specs.Transaction.{txOf, ended}
@@ -110,7 +110,7 @@ module _ (m : Monitor) (c : Call) (fine : Fine m) (pb : c .party < 16) (k : c .k
       let is = first-look m (fine .frame) f room in
       let i = idling m (c .party) idle in
       let own = own-set m (replaced m₁ (nextWaiting m (c .party)) l) (c .party) x (fine .frame .shape) pb refl in
-      moved-own m c _ x _ (replaced-frame m₁ fr₁ f room l refl) refl own
+      moved-own m c _ x _ (replaced-frame m₁ fr₁ f room l refl) refl own (refl, refl)
       (λ h. h) (Own.keeps refl refl (λ _. refl)) (sym (time-kept c _ _ 14 k refl)) (λ h. h) (says-taken c _ k refl)
       (Move.takes (record { link = refl; tx = refl }) (next .number) (record {
         there = rw is (first-there m (fine .frame) f room);
@@ -209,12 +209,13 @@ module _ (m : Monitor) (c : Call) (fine : Fine m) (pb : c .party < 16) (kinds : 
       (says-made-free c _ kinds refl (added-tx m fine room left _ (number-is _ room left) (c .party) ∙ same-true _ _ z)))
       (λ z. own-moved _ room left f z i en))
 
-  link-moved : Moved m c (askLink m (linkTx m (c .party) (c .b)) a (valued (added m (newLink (m .lastlink + 1) kd (c .party) at a (linkTx m (c .party) (c .b)) x s)) v))
+  link-moved : Moved m c (askLink m (c .party) (linkTx m (c .party) (c .b)) a (valued (added m (newLink (m .lastlink + 1) kd (c .party) at a (linkTx m (c .party) (c .b)) x s)) v))
   unfolding askLink made-link
   link-moved =
-      ask-moved (λ en. ask-moved (λ _. ask-moved (λ _. ask-moved
+      ask-moved (λ _. ask-moved (λ en. ask-moved (λ _. ask-moved (λ _. ask-moved
       (λ r. making (ltb-true _ 32 (and-l _ _ r)) (ltb-true _ 60000 (and-r (ltb (m .count) 32) _ r)) (not-true _ en))
-      (λ _. refused noRoomLeft refl fine)) (λ _. refused notOffered refl fine)) (λ _. refused timedOut refl fine)) (λ _. refused notAllowedNow refl fine)
+      (λ _. refused noRoomLeft refl fine)) (λ _. refused notOffered refl fine)) (λ _. refused timedOut refl fine)) (λ _. refused notAllowedNow refl fine))
+      (λ _. refused notPermitted refl fine)
 
 -- in a transaction and without flag 2, a request's flags are 0
 no-flags : (b t : ℕ) → leb b 3 && not (isBareNoReply b && not (eqb t 0)) ≡ true → noTran b ≡ false → Nz t → noReply b ≡ false

@@ -7,9 +7,10 @@ use lib.Dec.{eqb}
 use Rattle.rules.specs.Choice.{pick, same}
 use Rattle.rules.specs.Codes.{badArgument, notAllowedNow}
 use Rattle.rules.specs.Lists.{anyOf}
-use Rattle.rules.specs.Record.{noReports, freshParty, isRollbackOnly, isAttached, isEnding, ownEnd, party, live, serving, withParty, valued}
+use Rattle.rules.specs.Record.{noReports, isRollbackOnly, isAttached, isEnding, ownEnd, party, live, serving, withParty, valued}
+use Rattle.rules.specs.Rights.{SameRights}
 use Rattle.rules.specs.Sound.{choicesGood}
-use Rattle.rules.specs.Return.{plainOutcome, outcomeOf, leave, returnWith, returnOf, diedOut, terminateOf}
+use Rattle.rules.specs.Return.{plainOutcome, outcomeOf, leave, returnWith, returnOf, diedOut, afterDeath, terminateOf}
 use Rattle.rules.specs.declared.Call.{Call}
 use Rattle.rules.specs.declared.Link.{Link}
 use Rattle.rules.specs.declared.Monitor.{Monitor}
@@ -23,7 +24,7 @@ use Rattle.rules.proofs.History.Tells.{left}
 use Rattle.rules.proofs.History.Walk.Moved.{eventOf, timeAfter, loses, Moved}
 use Rattle.rules.proofs.History.Walk.Says.{says-left, time-kept, time-none}
 use Rattle.rules.proofs.History.Walk.LinkChanges.{noLink-attached, own-end, noLink-own}
-use Rattle.rules.proofs.History.Walk.Base.{ask-moved, refused, marks-stay}
+use Rattle.rules.proofs.History.Walk.Base.{ask-moved, refused, marks-stay, rights-self, marks-rights}
 use Rattle.rules.proofs.History.Walk.Leaving.{shed, shed-by, shed-owned}
 use Rattle.rules.proofs.History.Walk.Parted.{Parted, parted-as, shed-parted, isBad, leave-parted}
 
@@ -86,11 +87,11 @@ module _ (m m′ : Monitor) (p : ℕ) (bad : Bool) (x : Party) (fi : Fine m) (h 
 parted-moved : (m m′ : Monitor) (c : Call) (v : ℕ) (x : Party) → Fine m → eqb (c .kind) 20 || eqb (c .kind) 21 ≡ true → Parted m m′ (c .party) (isBad v) x
     → x .owned ≡ 0 → x .served ≡ 0
     → ((same (party m (c .party) .owned) 0 ≡ true → isRollbackOnly (party m (c .party)) ≡ false) → isRollbackOnly x ≡ false)
-    → (choicesGood (party m (c .party)) ≡ true → choicesGood x ≡ true) → Cleared (party m (c .party)) x
+    → (choicesGood (party m (c .party)) ≡ true → choicesGood x ≡ true) → Cleared (party m (c .party)) x → SameRights (party m (c .party)) x
     → x .timeout ≡ timeAfter (eventOf c (valued m′ v)) (party m (c .party) .timeout)
     → ((e : ℕ) → Nz (party m (c .party) .served) → isAttached (look e (live m)) ≡ true → look e (live m) .originator ≡ c .party → isBad v ≡ true)
     → Moved m c (valued m′ v)
-parted-moved m m′ c v x fi k h xo xs xm xg xr xt bo =
+parted-moved m m′ c v x fi k h xo xs xm xg xr xq xt bo =
     let says = says-left c (valued m′ v) k refl in
     let none : party m′ (c .party) .owned ≡ 0 = ap (λ y. y .owned) (h .self) ∙ xo in
     record {
@@ -98,6 +99,7 @@ parted-moved m m′ c v x fi k h xo xs xm xg xr xt bo =
       clock′ = h .numbers .clock′;
       choices = parted-good m m′ (c .party) (isBad v) x fi h xo xs xm bo xg;
       others = λ q n. marks-stay _ _ (h .marks q n);
+      rights = λ _. byNumber (c .party) (λ q. SameRights (party m q) (party m′ q)) (rw (h .self) xq) (λ q n. marks-rights _ _ (h .marks q n));
       own = loses none (λ f. ap (λ y. y .reports) (h .self) ∙ xr f);
       timeout′ = ap (λ y. y .timeout) (h .self) ∙ xt;
       opened′ = λ _. zero-nz none;
@@ -131,7 +133,7 @@ outcome-ends m p a t l = byTest Ending (λ _. refl)
     (λ _. byTest Ending (λ _. refl) (λ _. byTest Ending (λ _. plain-ends a) (λ _. byTest Ending (λ _. refl) (λ _. refl))))
     (λ _. plain-ends a))
 
--- the party afterwards
+-- the party afterwards, of a return
 shed-mark : (x : Party) → (same (x .owned) 0 ≡ true → isRollbackOnly x ≡ false) → isRollbackOnly (shed x) ≡ false
 shed-mark x f = shed-by (λ y. isRollbackOnly y ≡ false) x (λ z. f (rw z (same-refl 0))) (λ _. refl)
 
@@ -141,8 +143,18 @@ shed-good x g = shed-by (λ y. choicesGood y ≡ true) x (λ _. g) (λ _. none-g
 shed-cleared : (x : Party) → Cleared x (shed x)
 shed-cleared x f = shed-by (λ y. y .reports ≡ noReports) x f (λ _. refl)
 
+shed-rights : (x : Party) → SameRights x (shed x)
+shed-rights x = shed-by (SameRights x) x (λ _. rights-self x) (λ _. (refl, refl))
+
 shed-timeout : (x : Party) → shed x .timeout ≡ x .timeout
 shed-timeout x = shed-by (λ y. y .timeout ≡ x .timeout) x (λ _. refl) (λ _. refl)
+
+served-rights : (x : Party) → SameRights x (serving (shed x) 0)
+served-rights x = (shed-rights x .0, shed-rights x .1)
+
+-- and of a death
+fallen-good : (x : Party) → choicesGood x ≡ true → choicesGood (afterDeath x) ≡ true
+fallen-good x _ = fresh-choices
 
 module _ (m : Monitor) (c : Call) (fi : Fine m) (b : c .party < 16) where
   left-moved : c .kind ≡ 20 → Nz (party m (c .party) .served) → (o e : ℕ) → isEnding o ≡ true
@@ -150,7 +162,7 @@ module _ (m : Monitor) (c : Call) (fi : Fine m) (b : c .party < 16) where
       → Moved m c (valued (leave m (c .party) (party m (c .party) .served) o e) o)
   left-moved k s o e n bo = parted-moved m _ c o (serving (shed (party m (c .party))) 0) fi (rw k) (leave-parted m fi (c .party) b s o e n)
       (shed-owned (party m (c .party))) refl (shed-mark (party m (c .party))) (shed-good (party m (c .party))) (shed-cleared (party m (c .party)))
-      (shed-timeout (party m (c .party)) ∙ sym (time-kept c _ _ 20 k refl)) (λ i _. bo i)
+      (served-rights (party m (c .party))) (shed-timeout (party m (c .party)) ∙ sym (time-kept c _ _ 20 k refl)) (λ i _. bo i)
 
   pub return-moved : c .kind ≡ 20 → Moved m c (returnOf m (c .party) (c .a) (c .c))
   unfolding returnOf returnWith same
@@ -164,20 +176,22 @@ module _ (m : Monitor) (c : Call) (fi : Fine m) (b : c .party < 16) where
   -- ---- 21
   died-moved : (m′ : Monitor) (v : ℕ) (x : Party) → c .kind ≡ 21 → Parted m m′ (c .party) (isBad v) x
       → ((i : ℕ) → Nz (party m (c .party) .served) → isAttached (look i (live m)) ≡ true → look i (live m) .originator ≡ c .party → isBad v ≡ true)
-      → Moved m c (valued (withParty m′ (c .party) freshParty) v)
-  died-moved m′ v x k h bo = parted-moved m _ c v freshParty fi (rw k) (parted-as m m′ (c .party) (isBad v) x freshParty b h)
-      refl refl (λ _. refl) (λ _. fresh-choices) (λ _. refl) (sym (time-none c _ _ (rw k) refl)) bo
+      → Moved m c (valued (withParty m′ (c .party) (afterDeath (party m (c .party)))) v)
+  died-moved m′ v x k h bo = let y = afterDeath (party m (c .party)) in
+      parted-moved m _ c v y fi (rw k) (parted-as m m′ (c .party) (isBad v) x y b h)
+      refl refl (λ _. refl) (fallen-good (party m (c .party))) (λ _. refl) (refl, refl)
+      (sym (time-none c _ _ (rw k) refl)) bo
 
   -- it served none, or a link
-  either-moved : (served : Bool) (x y : Monitor) (v w : ℕ) → (served ≡ true → Moved m c (valued (withParty x (c .party) freshParty) v))
-      → (served ≡ false → Moved m c (valued (withParty y (c .party) freshParty) w))
-      → Moved m c (valued (withParty (pick served x y) (c .party) freshParty) (pick served v w))
+  either-moved : (served : Bool) (x y : Monitor) (z : Party) (v w : ℕ) → (served ≡ true → Moved m c (valued (withParty x (c .party) z) v))
+      → (served ≡ false → Moved m c (valued (withParty y (c .party) z) w))
+      → Moved m c (valued (withParty (pick served x y) (c .party) z) (pick served v w))
   unfolding pick
-  either-moved true x y v w f g = f refl
-  either-moved false x y v w f g = g refl
+  either-moved true x y z v w f g = f refl
+  either-moved false x y z v w f g = g refl
 
   pub terminate-moved : c .kind ≡ 21 → Moved m c (terminateOf m (c .party))
   unfolding terminateOf diedOut same
-  terminate-moved k = either-moved (eqb (party m (c .party) .served) 0) _ _ _ _
+  terminate-moved k = either-moved (eqb (party m (c .party) .served) 0) _ _ _ _ _
       (λ z. died-moved _ _ _ k (shed-parted m (fi .frame) (c .party) b) (λ _ s. not-both z s))
       (λ z. died-moved _ _ _ k (leave-parted m fi (c .party) b z _ _ refl) (λ _ _ _ _. refl))

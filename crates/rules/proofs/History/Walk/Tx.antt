@@ -47,6 +47,7 @@ module _ (m : Monitor) (c : Call) (f : Fine m) (b : c .party < 16) where
     mark′ = refl;
     served′ = refl;
     reports′ = λ _. refl;
+    rights′ = (refl, refl);
     time′ = sym (time-kept c (valued (withParty m (c .party) (inState (party m (c .party)) s)) 0) _ k e i);
     opened′ = λ _ _. in-opened (party m (c .party)) s n;
   })
@@ -71,6 +72,7 @@ module _ (m : Monitor) (c : Call) (f : Fine m) (b : c .party < 16) where
         mark′ = refl;
         served′ = refl;
         reports′ = λ _. refl;
+        rights′ = (refl, refl);
         time′ = sym (time-set c (valued (withParty m (c .party) (withTimeout (party m (c .party)) (c .a))) 0) _ e refl);
         opened′ = λ o n. o n;
       }))
@@ -100,6 +102,7 @@ module _ (m : Monitor) (c : Call) (f : Fine m) (b : c .party < 16) where
     mark′ = refl;
     served′ = refl;
     reports′ = λ _. refl;
+    rights′ = (refl, refl);
     time′ = sym (time-none c (valued (withParty m (c .party) (withTimeout (inState (party m (c .party)) s) 0)) 0) _ (rw e) refl);
     opened′ = λ o n. not-both {b = eqb (party m (c .party) .owned) 0} (rw (owned-none m (c .party) (state-low (state-is m (c .party)) h (o n)))) n;
   })
@@ -160,7 +163,7 @@ module _ (m : Monitor) (c : Call) (f : Fine m) (b : c .party < 16) where
       → Moved m c (ruled (entered (beginTx m (c .party)) (c .party) s) txOk)
   unfolding entered beginTx inState canStart
   begins-moved e s n t h = let p = c .party in let y = inState (begun m p) s in let r = ruled (entered (beginTx m p) p s) txOk in
-      moved-own m c r y nothing (frame-entered p s b (begin-frame m (f .frame) p b h)) refl (begun-own m (f .frame) p b h s)
+      moved-own m c r y nothing (frame-entered p s b (begin-frame m (f .frame) p b h)) refl (begun-own m (f .frame) p b h s) (refl, refl)
       (in-good (begun m p) s) (Own.begins (omega arith) refl (λ f. f (owned-none m p t))) (sym (time-kept c r _ 3 e refl)) (λ _ _. in-opened (begun m p) s n)
       (tx-says c 3 e refl _ txOk refl)
       (Move.begins refl (omega arith) (rw e) (sym (txOf-txP m (f .frame) p) ∙ t) (begun-begins m (f .frame) p b h s (suc (m .lasttx)) refl))
@@ -182,7 +185,7 @@ module _ (m : Monitor) (c : Call) (f : Fine m) (b : c .party < 16) where
         let y = inState (owningNone (party m p)) s in
         let r = ruled (entered (endTx m p) p s) code in
         let o = own-entered s (end-own m (f .frame) p b) (end-frame m (f .frame) p b) b in
-        moved-own m c r y nothing (frame-entered p s b (end-frame m (f .frame) p b)) refl o
+        moved-own m c r y nothing (frame-entered p s b (end-frame m (f .frame) p b)) refl o (refl, refl)
         (λ g. in-good (owningNone (party m p)) s (none-good (party m p) g)) (Own.loses refl (λ _. refl)) (sym (time-kept c r _ k e timeless)) (λ _ n. not-both refl n)
         (tx-says c k e plain _ code z)
         (ends (record { link = refl; tx = refl }) (ends-to m (f .frame) p b has (entered (endTx m p) p s) y o refl refl refl refl))
@@ -199,7 +202,7 @@ module _ (m : Monitor) (c : Call) (f : Fine m) (b : c .party < 16) where
         let r = ruled (entered (beginTx m′ p) p s) code in
         let was = end-own m (f .frame) p b .here in
         moved-own m c r y nothing (frame-entered p s b (begin-frame m′ fr p b h)) (end-clock m p)
-        (own-then (end-own m (f .frame) p b) (begun-own m′ fr p b h s))
+        (own-then (end-own m (f .frame) p b) (begun-own m′ fr p b h s)) (ap (λ x. x .mayrequest) was, ap (λ x. x .mayadvertise) was)
         (λ g. in-good (begun m′ p) s (rw was (none-good (party m p) g)))
         (Own.begins (rw (end-lasttx m p) (omega arith)) (rw (end-clock m p, was)) (λ _. ap (λ x. x .reports) was))
         (ap (λ x. x .timeout) was ∙ sym (time-kept c r _ k e timeless))

@@ -42,6 +42,7 @@ report-moved m c f b e = let x = reporting (party m (c .party)) (c .a) (reportNu
       mark′ = refl;
       served′ = refl;
       reports′ = λ n. not-both (rw e) n;
+      rights′ = (refl, refl);
       time′ = sym (time-kept c (valued (withParty m (c .party) x) 0) _ 22 e refl);
       opened′ = λ o n. o n;
     }))
