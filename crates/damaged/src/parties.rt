@@ -96,5 +96,9 @@ pub fn sound() {
     q.rollbackonly = 1;
     q.reports = [14; 4];
     show_party(b"sound, a party's other fields at their greatest", q);
+    let mut q = server();
+    q.mayrequest = 0;
+    q.mayadvertise = 0;
+    show_party(b"sound, a party that may do nothing", q);
     show_served(b"sound, served 0 beside a working link", 0);
 }

@@ -1,4 +1,4 @@
-// A record as the words that a host lends: 4 of the head, 14 of each party, 19 of each link, a number of 64 bits as two, the low half first.
+// A record as the words that a host lends: 4 of the head, 18 of each party, 19 of each link, a number of 64 bits as two, the low half first.
 ghost use Prim.Native.Nat.{_<_};
 use monitor::Store;
 use rules::Link;
@@ -13,7 +13,7 @@ fn high(x: u64) -> u32 {
     (x / 4294967296) as u32
 }
 
-fn party_words(q: Party) -> [u32; 14] {
+fn party_words(q: Party) -> [u32; 18] {
     let r = q.reports;
     [
         q.opened,
@@ -30,6 +30,10 @@ fn party_words(q: Party) -> [u32; 14] {
         r[1],
         r[2],
         r[3],
+        low(q.mayrequest),
+        high(q.mayrequest),
+        low(q.mayadvertise),
+        high(q.mayadvertise),
     ]
 }
 
@@ -58,12 +62,12 @@ fn link_words(l: Link) -> [u32; 19] {
     ]
 }
 
-fn with_party(mut s: Store, p: usize, words: [u32; 14]) -> Store
+fn with_party(mut s: Store, p: usize, words: [u32; 18]) -> Store
     requires { ⌜ p < 16 ⌝ }
 {
     let mut k = 0;
-    while k < 14 {
-        let at = 4 + p * 14 + k;
+    while k < 18 {
+        let at = 4 + p * 18 + k;
         let w = words[k];
         s.words[at] = w;
         k += 1;
@@ -76,7 +80,7 @@ fn with_link(mut s: Store, i: usize, words: [u32; 19]) -> Store
 {
     let mut k = 0;
     while k < 19 {
-        let at = 228 + i * 19 + k;
+        let at = 292 + i * 19 + k;
         let w = words[k];
         s.words[at] = w;
         k += 1;

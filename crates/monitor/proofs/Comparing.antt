@@ -1,19 +1,18 @@
--- What a loop reads of a record at a place, two records compared by what was read of each, and the record of words that are all zero.
+-- What a loop reads of a record at a place, and two records compared by what was read of each.
 -- Assumes nothing.
 use Prim.Native.Nat.{ℕ, _+_, _≤_, _<_}
-use mathlib.Core.Path.{_≡_, refl, ap, sym, _∙_}
+use mathlib.Core.Path.{_≡_, ap, sym, _∙_}
 use mathlib.Core.List.{List, _∷_}
 use mathlib.Core.Bool.{true, false}
 use native.Mathlib.Omega.{arith}
-use lib.ListN.{drop, replicate}
+use lib.ListN.{drop}
 use Rattle.rules.specs.declared.Party.{Party}
 use Rattle.rules.specs.declared.Link.{Link}
 use Rattle.rules.specs.Choice.{same}
-use Rattle.rules.specs.Record.{freshMonitor, live, party}
+use Rattle.rules.specs.Record.{live, party}
 use Rattle.rules.specs.Equal.{sameParty, sameLink, allSame}
 use Rattle.rules.proofs.Logic.{same-eq, same-ne}
-use Rattle.monitor.specs.Words.{words}
-use Rattle.monitor.specs.View.{linkAt, partyAt, linksFrom, partiesFrom, view, linkIn}
+use Rattle.monitor.specs.View.{view, linkIn}
 use Rattle.monitor.proofs.Laws.{next-live, next-party}
 use Rattle.monitor.proofs.Alike.{alike-more, alike-not}
 
@@ -55,8 +54,3 @@ module _ {a b x y : ℕ} (p : a ≡ x) (q : b ≡ y) where
 
   pub read-other : (a ≡ b → ⊥) → same x y ≡ false
   read-other n = same-ne _ _ (λ e. n (p ∙ e ∙ sym q))
-
--- ---- all zero
-pub fresh-view : view (replicate words 0) ≡ freshMonitor
-unfolding linkAt partyAt linksFrom partiesFrom
-fresh-view = refl

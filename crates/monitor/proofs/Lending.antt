@@ -1,5 +1,5 @@
 -- A Store behind a `&mut`: its words are taken out and lent, for a lifetime that is made for it, and put back at other words.
---     words-stored   what is an array `[u32; 836]` is all numbers of 32 bits
+--     words-stored   what is an array `[u32; 900]` is all numbers of 32 bits
 --     store-stored   so are the words of what is a Store
 --     lends-words    a `&mut Store` gives a `&mut` to its words, with what is kept of it
 --     words-back     at the words' last value that is the `&mut Store` again

@@ -1,6 +1,7 @@
 pub mod Alike
 pub mod Calls
 pub mod Checks
+pub mod Clearing
 pub mod Closing
 pub mod Comparing
 pub mod FileTrip
@@ -8,6 +9,7 @@ pub mod Laws
 pub mod Lending
 pub mod Lists
 pub mod Opening
+pub mod Owners
 pub mod Pieces
 pub mod Prefixes
 pub mod Put

@@ -10,7 +10,7 @@ use lib.Seq.{sets, length-sets, getD-set-same, getD-set-other}
 use Rattle.rules.specs.declared.Party.{Party}
 use Rattle.rules.specs.declared.Link.{Link}
 use Rattle.rules.specs.declared.Monitor.{Monitor}
-use Rattle.rules.specs.Record.{withUnread, withReports, offering, owning, withClock, withLastLink, withLastTx, withParty, withCount, replaced}
+use Rattle.rules.specs.Record.{withUnread, withReports, withRights, offering, owning, withClock, withLastLink, withLastTx, withParty, withCount, replaced}
 use Rattle.monitor.specs.Words.{headSize, partySize, linkSize, partyBase, linkBase, words, linkWords, partyWords, storedFrom, stored}
 use Rattle.monitor.specs.View.{linkAt, partyAt, linksFrom, partiesFrom, view}
 
@@ -103,6 +103,8 @@ partyFrom ws = record {
   rollbackonly = getD ws 8 0;
   served = getD ws 9 0;
   reports = getD ws 10 0 ∷ getD ws 11 0 ∷ getD ws 12 0 ∷ getD ws 13 0 ∷ [];
+  mayrequest = getD ws 14 0 + getD ws 15 0 * 4294967296;
+  mayadvertise = getD ws 16 0 + getD ws 17 0 * 4294967296;
 }
 
 headFrom : List ℕ → List Party → List Link → Monitor
@@ -229,10 +231,11 @@ module _ (xs : List ℕ) (i : ℕ) (l : Link) (n : length xs ≡ words) (h : i <
 pub whole : (x a b : ℕ) → a ≡ x % 4294967296 → b ≡ x / 4294967296 → a + b * 4294967296 ≡ x
 whole x a b e f = let d = div-add-mod' x 4294967296 in omega (arith, e, f)
 
-module _ (xs : List ℕ) (p : ℕ) (q : Party) (sl sh dl dh : ℕ) (n : length xs ≡ words) (h : p < 16)
-    (s : sl + sh * 4294967296 ≡ q .services) (d : dl + dh * 4294967296 ≡ q .deadline) (u : length (q .reports) ≡ 4) where
+module _ (xs : List ℕ) (p : ℕ) (q : Party) (sl sh dl dh rl rh al ah : ℕ) (n : length xs ≡ words) (h : p < 16)
+    (s : sl + sh * 4294967296 ≡ q .services) (d : dl + dh * 4294967296 ≡ q .deadline)
+    (r : rl + rh * 4294967296 ≡ q .mayrequest) (a : al + ah * 4294967296 ≡ q .mayadvertise) (u : length (q .reports) ≡ 4) where
   abbrev ws : List ℕ
-  ws = partyWords q sl sh dl dh
+  ws = partyWords q sl sh dl dh rl rh al ah
 
   abbrev zs : List ℕ
   zs = stored xs (partyBase p) ws
@@ -241,7 +244,7 @@ module _ (xs : List ℕ) (p : ℕ) (q : Party) (sl sh dl dh : ℕ) (n : length x
   unfolding partyFrom
   party-there =
       let f = four (q .reports) u in
-      party-made zs p ∙ ap partyFrom (stored-words ws xs (partyBase p) (omega arith)) ∙ (λ z. withReports (offering (owning q (q .owned) (d z)) (s z)) (f z))
+      party-made zs p ∙ ap partyFrom (stored-words ws xs (partyBase p) (omega arith)) ∙ (λ z. withRights (withReports (offering (owning q (q .owned) (d z)) (s z)) (f z)) (r z) (a z))
 
   party-stored : view zs ≡ withParty (view xs) p q
   unfolding wordsFrom headFrom
@@ -254,8 +257,8 @@ module _ (xs : List ℕ) (p : ℕ) (q : Party) (sl sh dl dh : ℕ) (n : length x
       let ls = links-alike zs xs 32 0 (λ k a b. past ws xs (partyBase p) words k (omega arith) (omega arith)) in
       λ z. headFrom (hs z) (ps z) (ls z)
 
-  pub put-party-law : (r : List ℕ) → r ≡ stored xs (partyBase p) (partyWords q sl sh dl dh) → (view r ≡ withParty (view xs) p q) × (length r ≡ words)
-  put-party-law r e = (ap view e ∙ party-stored, ap length e ∙ stored-long ws xs (partyBase p) ∙ n)
+  pub put-party-law : (ys : List ℕ) → ys ≡ stored xs (partyBase p) (partyWords q sl sh dl dh rl rh al ah) → (view ys ≡ withParty (view xs) p q) × (length ys ≡ words)
+  put-party-law ys e = (ap view e ∙ party-stored, ap length e ∙ stored-long ws xs (partyBase p) ∙ n)
 
 -- ---- a number of the head
 -- a number stored at a place of a run

@@ -35,7 +35,7 @@ unfoldable pub use Rattle.rules.specs.States.{stateOf, nextOf, inState, entered
 unfoldable pub use Rattle.rules.specs.Tx.{openOf, closeOf, beginOf, goOn, commitOf, rollbackOf, infoOf, commitReturnOf, controlOf, timeoutOf}
 unfoldable pub use Rattle.rules.specs.Votes.{reportNumber, reportIs, decides, someCommitted, someRolledBack, voteCode, codeAfter, commitCode, allCanStart, reportOf}
 pub use Rattle.rules.specs.Services.{isService}
-unfoldable pub use Rattle.rules.specs.Services.{inSet, offers, withService, offersNow, advertiseOf, unadvertiseOf}
+unfoldable pub use Rattle.rules.specs.Services.{inSet, offers, mayRequest, mayAdvertise, withService, offersNow, advertiseOf, unadvertiseOf}
 pub use Rattle.rules.specs.Requests.{connectFlags}
 unfoldable pub use Rattle.rules.specs.Requests.{linkTx, askLink, requestOf, connectOf, isIdle, fits, dispatchEvent, dispatched}
 unfoldable pub use Rattle.rules.specs.Requests.{dispatchOf}
@@ -46,6 +46,8 @@ unfoldable pub use Rattle.rules.specs.Conversations.{isSender, tellsDisconnect,
 unfoldable pub use Rattle.rules.specs.Conversations.{receiveOn, receiveOf, disconnectedAt, disconnectOf}
 unfoldable pub use Rattle.rules.specs.Return.{plainOutcome, outcomeOf, unreadAfter, closeOwn, endOwn, rollbackOnlyServed}
 unfoldable pub use Rattle.rules.specs.Return.{servesNone, endingOf, handBack, leave, returnWith, returnOf, diedOut, terminateOf}
+pub use Rattle.rules.specs.Return.{afterDeath}
+unfoldable pub use Rattle.rules.specs.Rights.{granted, rightsOf}
 pub use Rattle.rules.specs.Sound.{linkGood}
 unfoldable pub use Rattle.rules.specs.Sound.{reportsGood, linksGood, partyGood, partiesGood, sound}
 unfoldable pub use Rattle.rules.specs.Step.{ruleOf, laterOf, answeredTo, turnedDown, callOf, stepOf}

@@ -55,6 +55,7 @@ link-words xs i = refl
 -- a party's numbers, of the party
 abbrev allWords : Party → List ℕ
 allWords q = partyWords q (q .services % 4294967296) (q .services / 4294967296) (q .deadline % 4294967296) (q .deadline / 4294967296)
+    (q .mayrequest % 4294967296) (q .mayrequest / 4294967296) (q .mayadvertise % 4294967296) (q .mayadvertise / 4294967296)
 
 low : (a b : ℕ) → a < 4294967296 → (a + b * 4294967296) % 4294967296 ≡ a
 low a b h = omega arith
@@ -67,9 +68,14 @@ unfolding partyAt wordsAt wordsFrom
 party-words xs a p h =
     let s = a .small (partyBase p + 3) (omega arith) in
     let d = a .small (partyBase p + 6) (omega arith) in
+    let r = a .small (partyBase p + 14) (omega arith) in
+    let o = a .small (partyBase p + 16) (omega arith) in
     let services = getD xs (partyBase p + 4) 0 in
     let deadline = getD xs (partyBase p + 7) 0 in
+    let mayrequest = getD xs (partyBase p + 15) 0 in
+    let mayadvertise = getD xs (partyBase p + 17) 0 in
     λ z. partyWords (partyAt xs p) (low _ services s z) (high _ services s z) (low _ deadline d z) (high _ deadline d z)
+    (low _ mayrequest r z) (high _ mayrequest r z) (low _ mayadvertise o z) (high _ mayadvertise o z)
 
 module _ (xs ys : List ℕ) (a : WordsOf xs) (b : WordsOf ys) (e : view xs ≡ view ys) where
   same-link : (i : ℕ) → i < 32 → linkAt xs i ≡ linkAt ys i

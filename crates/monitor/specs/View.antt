@@ -4,7 +4,7 @@ use Prim.Native.Nat.{ℕ, zero, suc, _-_, _<_}
 use mathlib.Core.Path.{_≡_}
 use mathlib.Core.Bool.{Bool}
 use mathlib.Core.List.{List, [], _∷_}
-use lib.Dec.{ltb}
+use lib.Dec.{eqb, ltb}
 use lib.ListN.{length, getD, drop}
 use lib.Seq.{paste}
 use lib.IntN.{ℤ}
@@ -17,7 +17,8 @@ use Rattle.rules.specs.declared.Stepped.{Stepped}
 use Rattle.rules.specs.Choice.{pick, same}
 use Rattle.rules.specs.Codes.{tpAccepted}
 use Rattle.rules.specs.Record.{freshLink, blanks, live, withLinks, replaced}
-use Rattle.monitor.specs.Words.{words, readLink, readServices, readDeadline, readReports, readParty}
+use Rattle.rules.specs.Transaction.{ownerOf}
+use Rattle.monitor.specs.Words.{words, readLink, readServices, readDeadline, readReports, readMayRequest, readMayAdvertise, readParty}
 use Rattle.monitor.specs.declared.Told.{Told}
 
 -- the words of any record: as many as there are places, and each of 32 bits
@@ -30,7 +31,7 @@ unfoldable pub linkAt : List ℕ → ℕ → Link
 linkAt xs i = readLink xs i
 
 unfoldable pub partyAt : List ℕ → ℕ → Party
-partyAt xs p = readParty xs p (readServices xs p) (readDeadline xs p) (readReports xs p)
+partyAt xs p = readParty xs p (readServices xs p) (readDeadline xs p) (readReports xs p) (readMayRequest xs p) (readMayAdvertise xs p)
 
 -- n of them, from the place i on
 unfoldable pub linksFrom : ℕ → ℕ → List ℕ → List Link
@@ -52,6 +53,10 @@ linkIn m i = getD (m .links) i freshLink
 -- the link at the place i if there is one, and else a fresh one
 abbrev pub liveAt : Monitor → ℕ → Link
 liveAt m i = getD (live m) i freshLink
+
+-- the owner of the transaction t if it is live, else 16: of no transaction too
+abbrev pub liveOwner : List Party → ℕ → ℕ
+liveOwner ps t = pick (eqb t 0) 16 (ownerOf ps t)
 
 -- is this a link of the transaction t
 unfoldable pub ofTx : ℕ → Link → Bool

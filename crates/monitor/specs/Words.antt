@@ -11,7 +11,7 @@ abbrev pub headSize : ℕ
 headSize = 4
 
 abbrev pub partySize : ℕ
-partySize = 14
+partySize = 18
 
 abbrev pub linkSize : ℕ
 linkSize = 19
@@ -23,7 +23,7 @@ partyBase p = headSize + p * partySize
 abbrev pub linkBase : ℕ → ℕ
 linkBase i = partyBase 16 + i * linkSize
 
--- all of them, 836
+-- all of them, 900
 abbrev pub words : ℕ
 words = linkBase 32
 
@@ -59,9 +59,15 @@ readDeadline xs p = getD xs (partyBase p + 6) 0 + getD xs (partyBase p + 7) 0 * 
 abbrev pub readReports : List ℕ → ℕ → List ℕ
 readReports xs p = getD xs (partyBase p + 10) 0 ∷ getD xs (partyBase p + 11) 0 ∷ getD xs (partyBase p + 12) 0 ∷ getD xs (partyBase p + 13) 0 ∷ []
 
--- the party p, with its two numbers of 64 bits and its reports
-abbrev pub readParty : List ℕ → ℕ → ℕ → ℕ → List ℕ → Party
-readParty xs p services deadline reports =
+abbrev pub readMayRequest : List ℕ → ℕ → ℕ
+readMayRequest xs p = getD xs (partyBase p + 14) 0 + getD xs (partyBase p + 15) 0 * 4294967296
+
+abbrev pub readMayAdvertise : List ℕ → ℕ → ℕ
+readMayAdvertise xs p = getD xs (partyBase p + 16) 0 + getD xs (partyBase p + 17) 0 * 4294967296
+
+-- the party p, with its numbers of 64 bits and its reports
+abbrev pub readParty : List ℕ → ℕ → ℕ → ℕ → List ℕ → ℕ → ℕ → Party
+readParty xs p services deadline reports mayrequest mayadvertise =
     record {
       opened = getD xs (partyBase p) 0;
       control = getD xs (partyBase p + 1) 0;
@@ -72,6 +78,8 @@ readParty xs p services deadline reports =
       rollbackonly = getD xs (partyBase p + 8) 0;
       served = getD xs (partyBase p + 9) 0;
       reports = reports;
+      mayrequest = mayrequest;
+      mayadvertise = mayadvertise;
     }
 
 -- ---- stored
@@ -81,11 +89,11 @@ linkWords l =
     ∷ l .sender ∷ l .granting ∷ l .disconnected
     ∷ getD (l .unread) 0 0 ∷ getD (l .unread) 1 0 ∷ getD (l .unread) 2 0 ∷ getD (l .unread) 3 0 ∷ l .filled ∷ []
 
--- of a party, whose services and deadline are given by their halves
-abbrev pub partyWords : Party → ℕ → ℕ → ℕ → ℕ → List ℕ
-partyWords q sl sh dl dh =
+-- of a party, whose services, deadline and rights are given by their halves
+abbrev pub partyWords : Party → (sl sh dl dh rl rh al ah : ℕ) → List ℕ
+partyWords q sl sh dl dh rl rh al ah =
     q .opened ∷ q .control ∷ q .timeout ∷ sl ∷ sh ∷ q .owned ∷ dl ∷ dh ∷ q .rollbackonly ∷ q .served
-    ∷ getD (q .reports) 0 0 ∷ getD (q .reports) 1 0 ∷ getD (q .reports) 2 0 ∷ getD (q .reports) 3 0 ∷ []
+    ∷ getD (q .reports) 0 0 ∷ getD (q .reports) 1 0 ∷ getD (q .reports) 2 0 ∷ getD (q .reports) 3 0 ∷ rl ∷ rh ∷ al ∷ ah ∷ []
 
 -- the numbers vs at the places from at + k on
 abbrev pub storedFrom : List ℕ → ℕ → ℕ → List ℕ → List ℕ

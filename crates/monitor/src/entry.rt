@@ -15,6 +15,7 @@ use super::sound::is_sound_in;
 use super::steps::step_on;
 use super::words::Store;
 use super::words::WORDS;
+use super::words::clear;
 use rules::Answer;
 use rules::Call;
 
@@ -47,7 +48,7 @@ pub extern "C" fn monitor_file(m: &mut Store, input: &[u8], answers: &mut [i64])
 pub extern "C" fn monitor_fresh(words: &mut [u32; WORDS])
     ensures { λ _. ⌜ view (now (words .exit)) ≡ freshMonitor ⌝ }
 {
-    *words = [0; WORDS];
+    clear(&mut *words);
 }
 
 // Is the record sound?

@@ -9,6 +9,7 @@ mod links;
 mod replies;
 mod requests;
 mod returns;
+mod rights;
 mod run;
 mod services;
 mod sound;

@@ -12,17 +12,19 @@ use super::Told;
 use super::links::accept;
 use super::links::coded;
 use super::links::has_own_end;
+use super::services::in_set;
 use super::services::is_offered;
 use super::services::is_offering;
 use super::services::is_service;
-use super::transaction::is_ended;
-use super::transaction::is_expired;
+use super::transaction::is_late_at;
+use super::transaction::live_owner;
 use super::transaction::tx_of;
 use super::words::WORDS;
 use super::words::add_link;
 use super::words::count;
 use super::words::last_link;
 use super::words::link_at;
+use super::words::mayrequest_at;
 use super::words::party_at;
 use super::words::put_link;
 use super::words::put_party;
@@ -126,14 +128,21 @@ pub(crate) fn is_link_left(s: &[u32; WORDS]) -> bool
 }
 
 // The questions after the flags: the number of the first "no", and 0 where there is none.
-pub(crate) fn ask_link(s: &[u32; WORDS], t: u32, a: u32) -> i64
-    ensures { λ r. ⌜ r ≡ askLink (view (now (s .entry))) t a (valued (view (now (s .entry))) 0) .code ⌝ }
+pub(crate) fn ask_link(s: &[u32; WORDS], p: usize, t: u32, a: u32) -> i64
+    requires { ⌜ p < 16 ⌝ }
+    ensures { λ r. ⌜ r ≡ askLink (view (now (s .entry))) p t a (valued (view (now (s .entry))) 0) .code ⌝ }
 {
-    let ended = is_ended(s, t);
+    let set = mayrequest_at(s, p);
+    let permitted = in_set(set, a);
+    if !permitted {
+        return codes::NOT_PERMITTED;
+    }
+    let o = live_owner(s, t);
+    let ended = !(t == 0) & !(o < Monitor::PARTIES);
     if ended {
         return codes::NOT_ALLOWED_NOW;
     }
-    let late = is_expired(s, t);
+    let late = is_late_at(s, o);
     if late {
         return codes::TIMED_OUT;
     }
@@ -182,7 +191,7 @@ pub(crate) fn tpacall(s: &mut [u32; WORDS], p: usize, a: u32, b: u32, c: u32) ->
         return coded(codes::BAD_ARGUMENT);
     }
     let t = link_tx(&*s, p, b);
-    let code = ask_link(&*s, t, a);
+    let code = ask_link(&*s, p, t, a);
     if code != codes::TP_ACCEPTED {
         return coded(code);
     }
@@ -207,7 +216,7 @@ pub(crate) fn tpconnect(s: &mut [u32; WORDS], p: usize, a: u32, b: u32, c: u32) 
         return coded(codes::BAD_ARGUMENT);
     }
     let t = link_tx(&*s, p, b);
-    let code = ask_link(&*s, t, a);
+    let code = ask_link(&*s, p, t, a);
     if code != codes::TP_ACCEPTED {
         return coded(code);
     }

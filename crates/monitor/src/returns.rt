@@ -3,7 +3,7 @@ ghost use mathlib.Core.Path.{_≡_};
 ghost use Prim.Native.Nat.{_<_, _≤_};
 ghost use lib.ListN.{length};
 ghost use Rattle.rules.specs.Record.{isServerFree};
-ghost use Rattle.rules.specs.Return.{plainOutcome, outcomeOf, unreadAfter, closeOwn, endOwn, rollbackOnlyServed, servesNone, endingOf, handBack, leave, returnWith, returnOf, diedOut, terminateOf};
+ghost use Rattle.rules.specs.Return.{plainOutcome, outcomeOf, unreadAfter, closeOwn, endOwn, rollbackOnlyServed, servesNone, endingOf, handBack, leave, returnWith, returnOf, diedOut, afterDeath, terminateOf};
 ghost use Rattle.monitor.specs.Words.{words};
 ghost use Rattle.monitor.specs.View.{view, ruledBy};
 use super::Told;
@@ -247,16 +247,26 @@ pub(crate) fn die_out(s: &mut [u32; WORDS], p: usize)
     leave_link(&mut *s, p, d, codes::TPEV_SVCERR, 0);
 }
 
+// What the party is then, by what it was.
+pub(crate) fn after_death(q: Party) -> Party
+    ensures { λ r. ⌜ r ≡ afterDeath q ⌝ }
+{
+    let mut r = Party::fresh();
+    r.mayrequest = q.mayrequest;
+    r.mayadvertise = q.mayadvertise;
+    r
+}
+
 // Kind 21.
 pub(crate) fn terminate(s: &mut [u32; WORDS], p: usize) -> Told
     requires { ⌜ (p < 16) × (view (now s) .count ≤ 32) × (length (now s) ≡ words) ⌝ }
     ensures { λ r. ⌜ (ruledBy r (view (now (s .exit))) ≡ terminateOf (view (now (s .entry))) p) × (length (now (s .exit)) ≡ words) ⌝ }
 {
-    let d = served_at(&*s, p);
+    let before = party_at(&*s, p);
     die_out(&mut *s, p);
-    let none = Party::fresh();
-    put_party(&mut *s, p, none);
-    if d == 0 {
+    let after = after_death(before);
+    put_party(&mut *s, p, after);
+    if before.served == 0 {
         return accept(0);
     }
     accept(codes::TPEV_SVCERR)

@@ -20,6 +20,7 @@ use super::requests::tpacall;
 use super::requests::tpconnect;
 use super::returns::terminate;
 use super::returns::tpreturn;
+use super::rights::set_rights;
 use super::services::tpadvertise;
 use super::services::tpunadvertise;
 use super::sound::is_sound_in;
@@ -70,7 +71,8 @@ pub(crate) fn rule(s: &mut [u32; WORDS], p: usize, k: u32, a: u32, b: u32, c: u3
         20 => tpreturn(&mut *s, p, a, c),
         21 => terminate(&mut *s, p),
         22 => report(&mut *s, p, a, b, c),
-        0 | 23..=4294967295 => coded(codes::UNKNOWN_KIND),
+        23 => set_rights(&mut *s, p, a, b, c),
+        0 | 24..=4294967295 => coded(codes::UNKNOWN_KIND),
     }
 }
 
@@ -128,7 +130,7 @@ pub(crate) fn call_on(s: &mut [u32; WORDS], c: Call) -> Answer
     requires { ⌜ (sound (view (now s)) ≡ true) × (length (now s) ≡ words) ⌝ }
     ensures { λ r. ⌜ (stepped r (view (now (s .exit))) ≡ callOf (view (now (s .entry))) c) × (sound (view (now (s .exit))) ≡ true) × (length (now (s .exit)) ≡ words) ⌝ }
 {
-    let known = (1 <= c.kind) & (c.kind <= 22);
+    let known = (1 <= c.kind) & (c.kind <= 23);
     if !known {
         return turn_down(codes::UNKNOWN_KIND);
     }

@@ -1,9 +1,9 @@
 // The record's words: lengths and places, readers and stores. A number of 64 bits stands in two words, the low half first.
 ghost use mathlib.Core.Path.{_≡_};
 ghost use Prim.Native.Nat.{_+_, _*_, _/_, _%_, _<_, _≤_};
-ghost use lib.ListN.{length};
-ghost use Rattle.rules.specs.Record.{freshMonitor, party, withClock, withLastTx, withParty, withCount, replaced, added};
-ghost use Rattle.monitor.specs.Words.{words, linkBase, partyBase, readLink, readServices, readDeadline, readReports, readParty, linkWords, partyWords, stored};
+ghost use lib.ListN.{length, replicate};
+ghost use Rattle.rules.specs.Record.{freshParty, freshMonitor, party, withParties, withClock, withLastTx, withParty, withCount, replaced, added};
+ghost use Rattle.monitor.specs.Words.{words, linkBase, partyBase, readLink, readServices, readDeadline, readReports, readMayRequest, readMayAdvertise, readParty, linkWords, partyWords, stored};
 ghost use Rattle.monitor.specs.View.{view, linkIn};
 use rules::Link;
 use rules::Party;
@@ -20,7 +20,7 @@ const COUNT: usize = 3;
 // A party: where the first one stands, how many words one has, and the place of each field but the first among them.
 const PARTIES: usize = 4;
 
-const PARTY: usize = 14;
+const PARTY: usize = 18;
 
 const CONTROL: usize = 1;
 
@@ -47,6 +47,14 @@ const REPORT_SECOND: usize = 11;
 const REPORT_THIRD: usize = 12;
 
 const REPORT_FOURTH: usize = 13;
+
+const MAY_REQUEST: usize = 14;
+
+const MAY_REQUEST_HIGH: usize = 15;
+
+const MAY_ADVERTISE: usize = 16;
+
+const MAY_ADVERTISE_HIGH: usize = 17;
 
 // A link.
 const LINKS: usize = PARTIES + 16 * PARTY;
@@ -102,7 +110,9 @@ impl Store {
     pub fn fresh() -> Store
         ensures { λ r. ⌜ view (r .words) ≡ freshMonitor ⌝ }
     {
-        Store { words: [0; WORDS] }
+        let mut words = [0; WORDS];
+        clear(&mut words);
+        Store { words }
     }
 }
 
@@ -161,7 +171,7 @@ pub(crate) fn set_count(s: &mut [u32; WORDS], n: usize)
 
 // ---- a party
 // A number of 64 bits and its halves.
-fn long(low: u32, high: u32) -> u64
+pub(crate) fn long(low: u32, high: u32) -> u64
     ensures { λ r. ⌜ r ≡ low + high * 4294967296 ⌝ }
 {
     low as u64 + high as u64 * 4294967296
@@ -209,9 +219,33 @@ fn read_reports(s: &[u32; WORDS], p: usize) -> [u32; 4]
     ]
 }
 
-fn read_party(s: &[u32; WORDS], p: usize, services: u64, deadline: u64, reports: [u32; 4]) -> Party
+fn read_mayrequest(s: &[u32; WORDS], p: usize) -> u64
     requires { ⌜ p < 16 ⌝ }
-    ensures { λ r. ⌜ r ≡ readParty (now (s .entry)) p services deadline reports ⌝ }
+    ensures { λ r. ⌜ r ≡ readMayRequest (now (s .entry)) p ⌝ }
+{
+    let at = PARTIES + p * PARTY;
+    long(s[at + MAY_REQUEST], s[at + MAY_REQUEST_HIGH])
+}
+
+fn read_mayadvertise(s: &[u32; WORDS], p: usize) -> u64
+    requires { ⌜ p < 16 ⌝ }
+    ensures { λ r. ⌜ r ≡ readMayAdvertise (now (s .entry)) p ⌝ }
+{
+    let at = PARTIES + p * PARTY;
+    long(s[at + MAY_ADVERTISE], s[at + MAY_ADVERTISE_HIGH])
+}
+
+fn read_party(
+    s: &[u32; WORDS],
+    p: usize,
+    services: u64,
+    deadline: u64,
+    reports: [u32; 4],
+    mayrequest: u64,
+    mayadvertise: u64,
+) -> Party
+    requires { ⌜ p < 16 ⌝ }
+    ensures { λ r. ⌜ r ≡ readParty (now (s .entry)) p services deadline reports mayrequest mayadvertise ⌝ }
 {
     let at = PARTIES + p * PARTY;
     Party {
@@ -224,6 +258,8 @@ fn read_party(s: &[u32; WORDS], p: usize, services: u64, deadline: u64, reports:
         rollbackonly: s[at + ROLLBACK_ONLY],
         served: s[at + SERVED],
         reports,
+        mayrequest,
+        mayadvertise,
     }
 }
 
@@ -235,7 +271,9 @@ pub(crate) fn party_at(s: &[u32; WORDS], p: usize) -> Party
     let services = read_services(s, p);
     let deadline = read_deadline(s, p);
     let reports = read_reports(s, p);
-    read_party(s, p, services, deadline, reports)
+    let mayrequest = read_mayrequest(s, p);
+    let mayadvertise = read_mayadvertise(s, p);
+    read_party(s, p, services, deadline, reports, mayrequest, mayadvertise)
 }
 
 // One of its fields.
@@ -269,9 +307,28 @@ pub(crate) fn reports_at(s: &[u32; WORDS], p: usize) -> [u32; 4]
     read_reports(s, p)
 }
 
-fn store_party(s: &mut [u32; WORDS], p: usize, q: Party, sl: u32, sh: u32, dl: u32, dh: u32)
+pub(crate) fn mayrequest_at(s: &[u32; WORDS], p: usize) -> u64
     requires { ⌜ p < 16 ⌝ }
-    ensures { λ _. ⌜ now (s .exit) ≡ stored (now (s .entry)) (partyBase p) (partyWords q sl sh dl dh) ⌝ }
+    ensures { λ r. ⌜ r ≡ party (view (now (s .entry))) p .mayrequest ⌝ }
+{
+    read_mayrequest(s, p)
+}
+
+fn store_party(
+    s: &mut [u32; WORDS],
+    p: usize,
+    q: Party,
+    sl: u32,
+    sh: u32,
+    dl: u32,
+    dh: u32,
+    rl: u32,
+    rh: u32,
+    al: u32,
+    ah: u32,
+)
+    requires { ⌜ p < 16 ⌝ }
+    ensures { λ _. ⌜ now (s .exit) ≡ stored (now (s .entry)) (partyBase p) (partyWords q sl sh dl dh rl rh al ah) ⌝ }
 {
     let at = PARTIES + p * PARTY;
     s[at] = q.opened;
@@ -288,6 +345,10 @@ fn store_party(s: &mut [u32; WORDS], p: usize, q: Party, sl: u32, sh: u32, dl: u
     s[at + REPORT_SECOND] = q.reports[1];
     s[at + REPORT_THIRD] = q.reports[2];
     s[at + REPORT_FOURTH] = q.reports[3];
+    s[at + MAY_REQUEST] = rl;
+    s[at + MAY_REQUEST_HIGH] = rh;
+    s[at + MAY_ADVERTISE] = al;
+    s[at + MAY_ADVERTISE_HIGH] = ah;
 }
 
 // The party p becomes q.
@@ -299,7 +360,32 @@ pub(crate) fn put_party(s: &mut [u32; WORDS], p: usize, q: Party)
     let sh = high(q.services);
     let dl = low(q.deadline);
     let dh = high(q.deadline);
-    store_party(&mut *s, p, q, sl, sh, dl, dh);
+    let rl = low(q.mayrequest);
+    let rh = high(q.mayrequest);
+    let al = low(q.mayadvertise);
+    let ah = high(q.mayadvertise);
+    store_party(&mut *s, p, q, sl, sh, dl, dh, rl, rh, al, ah);
+}
+
+// Every party becomes fresh.
+fn clear_parties(s: &mut [u32; WORDS])
+    requires { ⌜ length (now s) ≡ words ⌝ }
+    ensures { λ _. ⌜ (view (now (s .exit)) ≡ withParties (view (now (s .entry))) (replicate 16 freshParty)) × (length (now (s .exit)) ≡ words) ⌝ }
+{
+    let none = Party::fresh();
+    let mut p = 0;
+    while p < 16 {
+        put_party(&mut *s, p, none);
+        p += 1;
+    }
+}
+
+// The record becomes fresh: all is 0 but what the parties may do.
+pub(crate) fn clear(s: &mut [u32; WORDS])
+    ensures { λ _. ⌜ view (now (s .exit)) ≡ freshMonitor ⌝ }
+{
+    *s = [0; WORDS];
+    clear_parties(&mut *s);
 }
 
 // ---- a link

@@ -5,8 +5,8 @@ use super::show::places;
 use super::show::signed;
 use super::show::text;
 use super::show::yes;
+use super::stored::all_of;
 use super::stored::load;
-use super::stored::same;
 use super::stored::unsound;
 use monitor::Store;
 
@@ -65,15 +65,18 @@ fn show_made(name: &[u8], m: Store) {
     let before = monitor::equal(m, Store::fresh());
     monitor::monitor_fresh(&mut n.words);
     let after = monitor::equal(n, Store::fresh());
-    let all = same(n, Store::fresh());
+    let full = all_of(n, true, 4294967295);
+    let zero = all_of(n, false, 0);
     text(b"monitor_fresh ");
     text(name);
     text(b": equal to fresh before ");
     yes(before);
     text(b", after ");
     yes(after);
-    text(b", all words 0 ");
-    yes(all);
+    text(b", rights full ");
+    yes(full);
+    text(b", other words 0 ");
+    yes(zero);
     text(b"\n");
 }
 

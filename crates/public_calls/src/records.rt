@@ -30,7 +30,11 @@ fn party_name(word: usize) {
         10 => text(b" report first"),
         11 => text(b" report second"),
         12 => text(b" report third"),
-        _ => text(b" report fourth"),
+        13 => text(b" report fourth"),
+        14 => text(b" mayrequest low"),
+        15 => text(b" mayrequest high"),
+        16 => text(b" mayadvertise low"),
+        _ => text(b" mayadvertise high"),
     }
 }
 
@@ -61,14 +65,14 @@ fn link_name(word: usize) {
 fn show_name(at: usize) {
     if at < 4 {
         head_name(at);
-    } else if at < 228 {
+    } else if at < 292 {
         text(b"party ");
-        number(((at - 4) / 14) as u64);
-        party_name((at - 4) % 14);
+        number(((at - 4) / 18) as u64);
+        party_name((at - 4) % 18);
     } else {
         text(b"link at ");
-        number(((at - 228) / 19) as u64);
-        link_name((at - 228) % 19);
+        number(((at - 292) / 19) as u64);
+        link_name((at - 292) % 19);
     }
 }
 
@@ -93,7 +97,7 @@ fn show_copy(base: Store, m: Store) {
 }
 
 fn show_change(base: Store, at: usize, value: u32)
-    requires { ⌜ at < 836 ⌝ }
+    requires { ⌜ at < 900 ⌝ }
 {
     let mut m = base;
     m.words[at] = value;
@@ -103,7 +107,7 @@ fn show_change(base: Store, at: usize, value: u32)
 }
 
 fn show_word(base: Store, at: usize)
-    requires { ⌜ at < 836 ⌝ }
+    requires { ⌜ at < 900 ⌝ }
 {
     let word = base.words[at];
     show_name(at);

@@ -59,3 +59,27 @@ pub fn same(x: Store, y: Store) -> bool {
     }
     same
 }
+
+// Is this the place of a word that tells what a party may do, the last four of each?
+fn tells_rights(at: usize) -> bool {
+    if at < 4 {
+        return false;
+    }
+    if at >= 292 {
+        return false;
+    }
+    (at - 4) % 18 >= 14
+}
+
+// Do all words that tell rights, or all others, hold the value?
+pub fn all_of(m: Store, rights: bool, value: u32) -> bool {
+    let mut all = true;
+    let mut i = 0;
+    while i < WORDS {
+        let word = m.words[i];
+        let other = tells_rights(i) != rights;
+        all = all & (other | (word == value));
+        i += 1;
+    }
+    all
+}

@@ -50,8 +50,9 @@ record Requested (m : Monitor) (p a b c : ℕ) (r : Ruled) : Type 0 where
 requested : (m : Monitor) (p a b c : ℕ) → isAccepted (requestOf m p a b c .code) ≡ true → Requested m p a b c (requestOf m p a b c)
 unfolding requestOf askLink isAccepted
 requested m p a b c = byTest Accepted
-    (λ g. byTest Accepted (λ _. byTest Accepted (λ _. byTest Accepted (λ _. byTest Accepted
+    (λ g. byTest Accepted (λ _. byTest Accepted (λ _. byTest Accepted (λ _. byTest Accepted (λ _. byTest Accepted
     (λ h _. record { good = g; room = ltb-true _ 32 (and-l _ _ h); left = ltb-true _ 60000 (and-r (ltb (m .count) 32) _ h); gives = refl })
+    (λ _ e. not-both e refl))
     (λ _ e. not-both e refl))
     (λ _ e. not-both e refl))
     (λ _ e. not-both e refl))

@@ -9,7 +9,7 @@ abbrev Inv-loop : tie.InvT-loop
 Inv-loop x y same₀ i₀ same i = Unit
 
 abbrev μ-loop : tie.MeasureT-loop
-μ-loop x y same₀ i₀ same i = 836 - i
+μ-loop x y same₀ i₀ same i = 900 - i
 
 loop-holds : tie.Need-loop-holds Inv-loop μ-loop
 loop-holds c = search needs

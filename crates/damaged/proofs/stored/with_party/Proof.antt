@@ -9,7 +9,7 @@ abbrev Inv-loop : tie.InvT-loop
 Inv-loop p s₀ words k₀ s k = Unit
 
 abbrev μ-loop : tie.MeasureT-loop
-μ-loop p s₀ words k₀ s k = 14 - k
+μ-loop p s₀ words k₀ s k = 18 - k
 
 loop-holds : tie.Need-loop-holds Inv-loop μ-loop
 loop-holds c = search needs

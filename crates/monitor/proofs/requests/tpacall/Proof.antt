@@ -29,11 +29,11 @@ good c = sym (ap₂ (λ (s : Bool) (t : ℕ). isGood s (c .before .before .befor
 
 -- those after it
 answer : (c : tie.After-ask-link) → let a = c .before .before .before .before .before .before .before .before .args in let m = view (a .s .now) in
-    Asked m (linkTx m (a .p) (a .b)) (a .a) (c .ask-link .result)
+    Asked m (a .p) (linkTx m (a .p) (a .b)) (a .a) (c .ask-link .result)
 answer c =
     let r = c .ask-link in
     let z : toZ w64 (ofZ w64 (r .result)) ≡ r .result = search needs in
-    asked _ _ (r .ensures) (c .before .before .link-tx .ensures) z
+    asked _ _ _ (r .ensures) (c .before .before .link-tx .ensures) z
 
 -- past them, the link is there
 link-told : (c : tie.After-no-reply) {v : ℕ} {r : Told} → let s = c .before .before .before .before .before .before .before .before .before .before .before .before .before .args in
@@ -48,11 +48,11 @@ link-told c v r =
     let passes = good (first .before) ∙ not-false _ (first .if1 .left) in
     let t = answered .before .before .link-tx .ensures in
     makes m (a .p) (a .a) (a .b) (a .c) (c .before .open-link .ensures .1) (c .before .before .before .open-end .ensures) t v r
-    ∙ opened m (linkTx m (a .p) (a .b)) (a .a) _ (requested m (a .p) (a .a) (a .b) (a .c)) passes (answer answered) (c .before .before .before .before .if2 .left)
+    ∙ opened m (a .p) (linkTx m (a .p) (a .b)) (a .a) _ (requested m (a .p) (a .a) (a .b) (a .c)) passes (answer answered) (c .before .before .before .before .if2 .left)
 
 returns : tie.Need-returns
 unfolding requestOf
-returns c = (not-good _ _ _ _ _ (good (c .before .before) ∙ not-true _ (c .before .if1 .taken)) (c .coded .ensures), c .before .before .before .before .before .pre .2)
+returns c = (not-good _ _ _ _ _ _ (good (c .before .before) ∙ not-true _ (c .before .if1 .taken)) (c .coded .ensures), c .before .before .before .before .before .pre .2)
 
 returns-2 : tie.Need-returns-2
 unfolding requestOf
@@ -63,10 +63,10 @@ returns-2 c =
     let a = s .args in
     let m = view (a .s .now) in
     let passes = good (first .before) ∙ not-false _ (first .if1 .left) in
-    (stopped m _ _ _ (requested m (a .p) (a .a) (a .b) (a .c)) passes (answer answered) (c .before .if2 .taken) (c .coded2 .ensures), s .pre .2)
+    (stopped m _ _ _ _ (requested m (a .p) (a .a) (a .b) (a .c)) passes (answer answered) (c .before .if2 .taken) (c .coded2 .ensures), s .pre .2)
 
 open-link-requires : tie.Need-open-link-requires
-open-link-requires c κs = let h = all-pass _ _ _ (answer (c .before .before .before)) (c .before .before .if2 .left) in search needs
+open-link-requires c κs = let h = all-pass _ _ _ _ (answer (c .before .before .before)) (c .before .before .if2 .left) in search needs
 
 returns-3 : tie.Need-returns-3
 returns-3 c =

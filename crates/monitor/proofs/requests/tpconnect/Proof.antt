@@ -24,15 +24,15 @@ good : (c : tie.After-connect-flags) → let a = c .before .before .args in isSe
 good c = sym (ap₂ _&&_ (c .before .is-service .ensures) (c .connect-flags .ensures))
 
 -- those after it
-answer : (c : tie.After-ask-link) → let a = c .before .before .before .before .before .before .before .args in let m = view (a .s .now) in Asked m (linkTx m (a .p) (a .b)) (a .a) (c .ask-link .result)
+answer : (c : tie.After-ask-link) → let a = c .before .before .before .before .before .before .before .args in let m = view (a .s .now) in Asked m (a .p) (linkTx m (a .p) (a .b)) (a .a) (c .ask-link .result)
 answer c =
     let r = c .ask-link in
     let z : toZ w64 (ofZ w64 (r .result)) ≡ r .result = search needs in
-    asked _ _ (r .ensures) (c .before .before .link-tx .ensures) z
+    asked _ _ _ (r .ensures) (c .before .before .link-tx .ensures) z
 
 returns : tie.Need-returns
 unfolding connectOf
-returns c = (not-good _ _ _ _ _ (good (c .before .before) ∙ not-true _ (c .before .if1 .taken)) (c .coded .ensures), c .before .before .before .before .pre .2)
+returns c = (not-good _ _ _ _ _ _ (good (c .before .before) ∙ not-true _ (c .before .if1 .taken)) (c .coded .ensures), c .before .before .before .before .pre .2)
 
 returns-2 : tie.Need-returns-2
 unfolding connectOf
@@ -43,10 +43,10 @@ returns-2 c =
     let a = s .args in
     let m = view (a .s .now) in
     let passes = good (first .before) ∙ not-false _ (first .if1 .left) in
-    (stopped m _ _ _ (connected m (a .p) (a .a) (a .b) (a .c)) passes (answer answered) (c .before .if2 .taken) (c .coded2 .ensures), s .pre .2)
+    (stopped m _ _ _ _ (connected m (a .p) (a .a) (a .b) (a .c)) passes (answer answered) (c .before .if2 .taken) (c .coded2 .ensures), s .pre .2)
 
 open-link-requires : tie.Need-open-link-requires
-open-link-requires c κs = let h = all-pass _ _ _ (answer (c .before .before .before)) (c .before .before .if2 .left) in search needs
+open-link-requires c κs = let h = all-pass _ _ _ _ (answer (c .before .before .before)) (c .before .before .if2 .left) in search needs
 
 returns-3 : tie.Need-returns-3
 unfolding connectOf
@@ -59,7 +59,7 @@ returns-3 c =
     let passes = good (first .before) ∙ not-false _ (first .if1 .left) in
     let t = answered .before .before .link-tx .ensures in (
       makes m (a .p) (a .a) (a .b) (a .c) (o .1) t (c .before .before .before .first-sender .ensures) (o .0) (c .accept .ensures)
-          ∙ opened m (linkTx m (a .p) (a .b)) (a .a) _ (connected m (a .p) (a .a) (a .b) (a .c)) passes (answer answered) (c .before .before .before .before .if2 .left),
+          ∙ opened m (a .p) (linkTx m (a .p) (a .b)) (a .a) _ (connected m (a .p) (a .a) (a .b) (a .c)) passes (answer answered) (c .before .before .before .before .if2 .left),
       o .2,
     )
 

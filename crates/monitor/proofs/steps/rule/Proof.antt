@@ -23,11 +23,11 @@ above B k (suc n) h o =
     let l = above B k n h (o .0) in
     omega (arith, o .1)
 
--- no kind is above 22
-unknown : (m : Monitor) (p k a b c : ℕ) → 22 < k → ruleOf m p k a b c ≡ ruled m unknownKind
+-- no kind is above 23
+unknown : (m : Monitor) (p k a b c : ℕ) → 23 < k → ruleOf m p k a b c ≡ ruled m unknownKind
 unfolding ruleOf
 unknown m p k a b c h =
-    let other : (n : ℕ) → n ≤ 22 → eqb k n ≡ false = λ n l. ne-eqb k n (λ e. omega arith) in
+    let other : (n : ℕ) → n ≤ 23 → eqb k n ≡ false = λ n l. ne-eqb k n (λ e. omega arith) in
     pick-false _ _ _ (other 1 (omega arith))
     ∙ pick-false _ _ _ (other 2 (omega arith))
     ∙ pick-false _ _ _ (other 3 (omega arith))
@@ -50,6 +50,7 @@ unknown m p k a b c h =
     ∙ pick-false _ _ _ (other 20 (omega arith))
     ∙ pick-false _ _ _ (other 21 (omega arith))
     ∙ pick-false _ _ _ (other 22 (omega arith))
+    ∙ pick-false _ _ _ (other 23 (omega arith))
 
 tx-open-requires : tie.Need-tx-open-requires
 tx-open-requires c κs = search (needs, sound-room)
@@ -116,6 +117,9 @@ terminate-requires c κs = search (needs, sound-room)
 
 report-requires : tie.Need-report-requires
 report-requires c κs = search (needs, sound-room)
+
+set-rights-requires : tie.Need-set-rights-requires
+set-rights-requires c κs = search needs
 
 coded-requires : tie.Need-coded-requires
 coded-requires c κs = search needs
@@ -255,14 +259,20 @@ returns-22 c =
     (at (view (a .s .now)) (a .p) (a .a) (a .b) (a .c) (c .before .before .match .keys22) (c .report .ensures .0), c .report .ensures .1)
 
 returns-23 : tie.Need-returns-23
-unfolding ruleOf pick Others
+unfolding ruleOf pick
 returns-23 c =
+    let a = c .before .before .before .args in
+    (at (view (a .s .now)) (a .p) (a .a) (a .b) (a .c) (c .before .before .match .keys23) (c .set-rights .ensures .0), c .set-rights .ensures .1)
+
+returns-24 : tie.Need-returns-24
+unfolding ruleOf pick Others
+returns-24 c =
     let a = c .before .before .args in
     let m = view (a .s .now) in
     let e = ap (λ (t : Told). ruledBy t m) (c .coded .ensures) in (
       ⊎-elim
-          (λ w. at m (a .p) (a .a) (a .b) (a .c) (w .keys23) e)
-          (λ w. e ∙ sym (unknown m (a .p) (a .k) (a .a) (a .b) (a .c) (above _ (a .k) 22 (positive _ (w .rest .1)) (w .rest .0))))
+          (λ w. at m (a .p) (a .a) (a .b) (a .c) (w .keys24) e)
+          (λ w. e ∙ sym (unknown m (a .p) (a .k) (a .a) (a .b) (a .c) (above _ (a .k) 23 (positive _ (w .rest .1)) (w .rest .0))))
           (c .before .match .came),
       c .before .before .pre .2,
     )
@@ -293,6 +303,7 @@ rule-spec =
     tpreturn-requires
     terminate-requires
     report-requires
+    set-rights-requires
     coded-requires
     returns
     returns-2
@@ -316,4 +327,5 @@ rule-spec =
     returns-20
     returns-21
     returns-22
-    returns-23)
+    returns-23
+    returns-24)

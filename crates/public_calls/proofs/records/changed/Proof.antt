@@ -9,7 +9,7 @@ abbrev Inv-loop : tie.InvT-loop
 Inv-loop base at₀ at = Unit
 
 abbrev μ-loop : tie.MeasureT-loop
-μ-loop base at₀ at = 836 - at
+μ-loop base at₀ at = 900 - at
 
 loop-holds : tie.Need-loop-holds Inv-loop μ-loop
 loop-holds c = search needs
