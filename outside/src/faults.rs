@@ -18,6 +18,7 @@ faults! {
     AnyFetchLeavesLink,
     AnyFetchNamesNoLink,
     AnyoneReports,
+    AnyoneSetsRights,
     CantStartStarts,
     ClockGoesBack,
     ClockMovedByUnknownKind,
@@ -31,17 +32,22 @@ faults! {
     EarlyFetchRemovesLink,
     FailMarksNothing,
     FailedReturnMarksNothing,
+    FallResetsRights,
     FetchLeavesLink,
     FirstReportStands,
+    HalvesExchanged,
     HazardIsGood,
     LinkNumbersReused,
     NewEndSendsEarly,
     NonOwnerCommits,
+    PartyByRemainder,
     ReportsStay,
+    RightAfterOffered,
     RollbackOnlyLeavesNoMark,
     RolledBackCommits,
     SomeCantStart,
     SuccessWithOpenEnds,
+    TakeAsksRight,
     TransactionNumbersReused,
     TurnWithoutEvent,
     VetoCountsForNothing,
@@ -133,7 +139,7 @@ mod planted {
     }
 
     /// The kinds by their names in `crates/histories/proofs/Rows.antt`.
-    pub const KIND_NAMES: [(u32, &str); 20] = [
+    pub const KIND_NAMES: [(u32, &str); 21] = [
         (1, "txOpen"),
         (2, "txClose"),
         (3, "txBegin"),
@@ -154,6 +160,7 @@ mod planted {
         (20, "tpreturn"),
         (21, "terminate"),
         (22, "report"),
+        (23, "setRights"),
     ];
 }
 
@@ -235,10 +242,16 @@ mod tests {
     }
 
     /// No list shows these to the statement; an answer tells each.
-    const NO_HISTORY: [Fault; 4] = [
+    const NO_HISTORY: [Fault; 10] = [
+        Fault::AnyoneSetsRights,
         Fault::CantStartStarts,
+        Fault::FallResetsRights,
+        Fault::HalvesExchanged,
         Fault::NonOwnerCommits,
+        Fault::PartyByRemainder,
+        Fault::RightAfterOffered,
         Fault::SomeCantStart,
+        Fault::TakeAsksRight,
         Fault::VetoDecidesNothing,
     ];
 
@@ -295,5 +308,17 @@ mod tests {
         assert_eq!(told, (79, 4, -102, -2));
         let told = first_told("case-68", Fault::VetoDecidesNothing);
         assert_eq!(told, (43, 4, -2, -3));
+        let told = first_told("case-81", Fault::AnyoneSetsRights);
+        assert_eq!(told, (4, 23, 35, 0));
+        let told = first_told("case-86", Fault::FallResetsRights);
+        assert_eq!(told, (20, 10, 35, 0));
+        let told = first_told("case-83", Fault::HalvesExchanged);
+        assert_eq!(told, (4, 12, 25, 35));
+        let told = first_told("case-82", Fault::PartyByRemainder);
+        assert_eq!(told, (33, 10, 35, 0));
+        let told = first_told("case-85", Fault::RightAfterOffered);
+        assert_eq!(told, (58, 12, 35, 25));
+        let told = first_told("case-84", Fault::TakeAsksRight);
+        assert_eq!(told, (23, 14, 0, 32));
     }
 }

@@ -3,8 +3,8 @@
 
 use crate::kinds::{row, Meaning, Mood, Place, Row, Tried, KINDS, LAST_KIND};
 use crate::monitor::{
-    step, Cut, End, Kind, Link, Monitor, Party, State, HEURISTIC_COMMITTED, HEURISTIC_HAZARD,
-    LAST_NUMBER, LINKS, LONGEST_TIMEOUT, MANAGERS, PARTIES, PREPARED, READ_ONLY,
+    has, step, Cut, End, Kind, Link, Monitor, Party, State, ALL_SERVICES, HEURISTIC_COMMITTED,
+    HEURISTIC_HAZARD, LAST_NUMBER, LINKS, LONGEST_TIMEOUT, MANAGERS, PARTIES, PREPARED, READ_ONLY,
 };
 
 /// A small generator of numbers (xorshift64*), from a seed alone.
@@ -138,6 +138,9 @@ impl Generator {
             let [party, kind, a, b, c] = self.stray(m);
             return [clock, party, kind, a, b, c];
         }
+        if let Some([a, b, c]) = self.rights(m) {
+            return [clock, 0, 23, a, b, c];
+        }
         // A caller that can only wait mostly leaves the call to another one.
         let mut party = self.caller(m);
         let (mut fits, mut call) = self.plausible(m, party);
@@ -255,6 +258,59 @@ impl Generator {
         }
     }
 
+    /// Now and then party 0 sets rights that lack something. While some do, they
+    /// are mostly given back soon: all else becomes 35 otherwise.
+    fn rights(&mut self, m: &Monitor) -> Option<[u32; 3]> {
+        let lacking: Vec<u32> = (0..)
+            .zip(&m.parties)
+            .flat_map(|(p, party)| {
+                let sets = [(2 * p, party.may_request), (2 * p + 1, party.may_advertise)];
+                sets.into_iter()
+                    .filter(|&(_, set)| set != ALL_SERVICES)
+                    .map(|(a, _)| a)
+            })
+            .collect();
+        if !lacking.is_empty() && self.rng.once_in(20) {
+            return Some([self.rng.pick(&lacking), u32::MAX, u32::MAX]);
+        }
+        let seldom = if lacking.is_empty() { 300 } else { 100 };
+        if self.rng.once_in(seldom) {
+            let a = 2 * self.rng.pick(&self.active) + self.rng.below(2);
+            return Some([a, self.low_services(), self.high_services()]);
+        }
+        None
+    }
+
+    /// Services 1 to 32 of a set of rights: mostly without a few low ones.
+    fn low_services(&mut self) -> u32 {
+        match self.rng.below(12) {
+            0 => 0,
+            1 => self.rng.next_u32(),
+            2 => 1 << self.rng.below(4),
+            3..=8 => !(1 << self.rng.below(4) | 1 << self.rng.below(12)),
+            _ => u32::MAX,
+        }
+    }
+
+    /// Services 33 to 64 of it.
+    fn high_services(&mut self) -> u32 {
+        match self.rng.below(8) {
+            0 | 1 => 0,
+            2 => self.rng.next_u32(),
+            3 => 1 << self.rng.below(32),
+            _ => u32::MAX,
+        }
+    }
+
+    /// At times a service that a set of rights lacks.
+    fn lacking(&mut self, set: u64) -> Option<u32> {
+        if set == ALL_SERVICES || !self.rng.once_in(4) {
+            return None;
+        }
+        let lacks: Vec<u32> = (1..=64).filter(|&service| !has(set, service)).collect();
+        Some(self.rng.pick(&lacks))
+    }
+
     /// A call without an eye on the caller, at times malformed.
     fn stray(&mut self, m: &Monitor) -> [u32; 5] {
         let party = match self.rng.below(8) {
@@ -289,16 +345,19 @@ impl Generator {
             (Meaning::Link, _) => self.link(m),
             (Meaning::Timeout, _) => self.rng.pick(&[0, 1, LONGEST_TIMEOUT, LONGEST_TIMEOUT + 1]),
             (Meaning::Manager, _) => self.rng.below(MANAGERS as u32 + 1),
+            (Meaning::Rights, _) => self.rng.below(2 * PARTIES as u32 + 2),
             _ => self.rng.below(4),
         };
         let b = match (of_b, self.rng.below(8)) {
             (_, 0) => self.rng.next_u32(),
             (Meaning::AnyReply, _) => self.rng.below(3),
             (Meaning::Vote, _) => self.rng.below(HEURISTIC_HAZARD + 2),
+            (Meaning::LowServices, _) => self.low_services(),
             _ => self.rng.below(16),
         };
         let c = match of_c {
             Meaning::CantStart => self.rng.below(3),
+            Meaning::HighServices => self.high_services(),
             _ => self.token(),
         };
         [party, kind, a, b, c]
@@ -336,7 +395,8 @@ impl Generator {
         let row = self.rng.pick(&on_links);
         add(2, self.call(&view, row, number));
 
-        for row in KINDS.iter().filter(|row| row.tried == Tried::SomeCaller) {
+        let seldom = [Tried::SomeCaller, Tried::SeldomCaller];
+        for row in KINDS.iter().filter(|row| seldom.contains(&row.tried)) {
             if self.rng.once_in(5) {
                 let call = self.call(&view, row, 0);
                 add(row.weight(self.mood, self.place(&view, row)), call);
@@ -423,8 +483,15 @@ impl Generator {
             Meaning::ToOffer | Meaning::ToWithdraw if self.mood == Mood::Services => {
                 1 + self.rng.below(14)
             }
-            Meaning::ToOffer => self.service(),
-            Meaning::ToWithdraw | Meaning::Wanted => self.offered_service(view.m),
+            Meaning::ToOffer => match self.lacking(view.party.may_advertise) {
+                Some(service) => service,
+                None => self.service(),
+            },
+            Meaning::Wanted => match self.lacking(view.party.may_request) {
+                Some(service) => service,
+                None => self.offered_service(view.m),
+            },
+            Meaning::ToWithdraw => self.offered_service(view.m),
             Meaning::RequestFlags => match self.rng.below(30) {
                 _ if booking => 0,
                 0 => self.rng.below(10),
@@ -485,6 +552,12 @@ impl Generator {
                 1..=10 => 1,
                 _ => 0,
             },
+            Meaning::Rights => match self.rng.below(4) {
+                0 => self.rng.pick(&[32, 33, view.other]),
+                _ => 2 * self.rng.pick(&self.active) + self.rng.below(2),
+            },
+            Meaning::LowServices => self.low_services(),
+            Meaning::HighServices => self.high_services(),
         }
     }
 
@@ -529,11 +602,10 @@ impl Generator {
                 _ => Place::Fit,
             },
             14 if party.opened && party.served == 0 && t == 0 && no_ends => {
-                let work = m.links().iter().any(|l| {
-                    l.state == State::Waiting
-                        && (1..=64).contains(&l.service)
-                        && party.services >> (l.service - 1) & 1 == 1
-                });
+                let work = m
+                    .links()
+                    .iter()
+                    .any(|l| l.state == State::Waiting && has(party.services, l.service));
                 if work {
                     Place::Fit
                 } else {
@@ -584,7 +656,7 @@ struct View<'a> {
 /// Whether a kind is tried for an end.
 fn is_for_end(row: &Row, l: &Link, end: End) -> bool {
     match row.tried {
-        Tried::Caller | Tried::SomeCaller => false,
+        Tried::Caller | Tried::SomeCaller | Tried::SeldomCaller => false,
         Tried::Request => l.kind == Kind::Request && end == End::Originator,
         Tried::Conversation => l.kind == Kind::Conversation,
         Tried::OwnConversation => l.kind == Kind::Conversation && end == End::Originator,
@@ -698,9 +770,18 @@ pub fn spent(seed: u64, give: Give) {
         s.call(call);
     }
 
-    // Room for links: the callers fall, what still waits is served.
+    // Room for links: the callers fall, what still waits is served. A fall
+    // leaves the rights, so they are given back.
     for party in 0..10 {
         s.now(party, 21, 0, 0, 0);
+    }
+    for (a, party) in (0..).step_by(2).zip(s.monitor.parties) {
+        if party.may_request != ALL_SERVICES {
+            s.now(0, 23, a, u32::MAX, u32::MAX);
+        }
+        if party.may_advertise != ALL_SERVICES {
+            s.now(0, 23, a + 1, u32::MAX, u32::MAX);
+        }
     }
     s.now(0, 1, 0, 0, 0);
     s.now(9, 10, 64, 0, 0);

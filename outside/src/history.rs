@@ -19,6 +19,9 @@ pub enum Broken {
     AtWork { commit: usize, party: u32 },
     /// A refusal with something beside its number and T.
     Refusal { at: usize },
+    /// A call answered as if it had a right that it lacked, or the other way
+    /// round (R-5).
+    Rights { at: usize },
 }
 
 fn party(entry: &Entry) -> u32 {
@@ -358,6 +361,50 @@ pub fn check_refusals(history: &[Entry]) -> Option<Broken> {
         .map(|at| Broken::Refusal { at })
 }
 
+/// Rights (R-5), read off the calls and answers: what a party may request or
+/// advertise is what the last accepted 23 about it said, and all if there is
+/// none, its own fall in between or not. "Not permitted is 35, which comes after
+/// 22 in kinds 10, 12 and 13 and first in kind 23"; so there every other answer
+/// past question 21 tells that the right was there.
+pub fn check_rights(history: &[Entry]) -> Option<Broken> {
+    // b and c of the last accepted 23 by its a.
+    let mut last: [Option<[u32; 2]>; 32] = [None; 32];
+    for (at, entry) in history.iter().enumerate() {
+        let [_, party, kind, a, b, c] = entry.0;
+        let code = code(entry);
+        let good = match kind {
+            _ if !is_past_21(entry) => true,
+            10 | 12 | 13 if code == 22 => true,
+            10 | 12 | 13 => {
+                let of = 2 * party as usize + usize::from(kind == 10);
+                let may = match (last[of], a) {
+                    (_, 0 | 65..) => return Some(Broken::Rights { at }),
+                    (None, _) => true,
+                    (Some([low, _]), 1..=32) => low & 1 << (a - 1) != 0,
+                    (Some([_, high]), _) => high & 1 << (a - 33) != 0,
+                };
+                may == (code != 35)
+            }
+            23 => {
+                if code == 0 && a < 32 {
+                    last[a as usize] = Some([b, c]);
+                }
+                let expected = match (party, a) {
+                    (1.., _) => 35,
+                    (0, 32..) => 22,
+                    (0, _) => 0,
+                };
+                code == expected
+            }
+            _ => code != 35,
+        };
+        if !good {
+            return Some(Broken::Rights { at });
+        }
+    }
+    None
+}
+
 /// The first rule found broken, if any: sender rule, commit rule, nobody else
 /// at work.
 pub fn check(history: &[Entry]) -> Option<Broken> {
@@ -689,5 +736,90 @@ mod tests {
         assert_eq!((h[5].1[0], check(&h)), (-109, None));
         h[5].1[0] = -100;
         assert_eq!(check(&h), Some(Broken::WronglyCommitted { commit: 5 }));
+    }
+    /// Rights are what the last accepted 23 said, whoever fell since; what they
+    /// forbid is 35, and only that.
+    #[test]
+    fn rights() {
+        let h = history(&[
+            [0, 1, 10, 5, 0, 0],
+            [0, 1, 10, 40, 0, 0],
+            [0, 1, 23, 99, 0, 0],
+            [0, 0, 23, 32, 0, 0],
+            [0, 0, 23, 3, 0, 0],
+            [0, 1, 10, 5, 0, 0],
+            [0, 2, 12, 5, 0, 0],
+            [0, 0, 23, 4, 0x10, 0],
+            [0, 2, 12, 40, 0, 0],
+            [0, 2, 12, 5, 2, 0],
+            [0, 2, 12, 5, 9, 0],
+            [0, 2, 21, 0, 0, 0],
+            [0, 2, 13, 40, 4, 0],
+            [0, 0, 23, 4, 0, 0x80],
+            [0, 2, 13, 40, 4, 0],
+            [0, 2, 13, 41, 4, 0],
+            [0, 2, 13, 5, 4, 0],
+            [0, 16, 12, 5, 0, 0],
+            [0, 2, 99, 0, 0, 0],
+        ]);
+        let codes: Vec<i64> = h.iter().map(code).collect();
+        assert_eq!(
+            codes,
+            [0, 0, 35, 22, 0, 35, 0, 0, 35, 0, 22, 0, 35, 0, 0, 35, 35, 21, 20]
+        );
+        assert_eq!((check_rights(&h), check_refusals(&h)), (None, None));
+        assert_eq!(check(&h), None);
+        for (at, other) in [
+            (2, 22),
+            (2, 0),
+            (3, 0),
+            (3, 35),
+            (4, 35),
+            (4, 22),
+            (5, 0),
+            (5, 26),
+            (6, 35),
+            (8, 25),
+            (9, 35),
+            (11, 35),
+            (12, 0),
+            (14, 35),
+            (15, 25),
+            (16, 0),
+        ] {
+            let mut h = h.clone();
+            h[at].1[0] = other;
+            assert_eq!(check_rights(&h), Some(Broken::Rights { at }), "{at}");
+        }
+        // 22 tells nothing of a right; a service that there is not is 22.
+        let mut h = h;
+        h[10].0[3] = 77;
+        assert_eq!(check_rights(&h), None);
+        h[10].1[0] = 35;
+        assert_eq!(check_rights(&h), Some(Broken::Rights { at: 10 }));
+    }
+
+    /// Kind 23 in a list: the sender rule and the commit rule read as before.
+    #[test]
+    fn rights_among_the_rest() {
+        let h = good();
+        for at in 0..h.len() {
+            // Rights that are taken from both ends, and a 23 that is refused.
+            let mut calls: Vec<[u32; 6]> = h.iter().map(|entry| entry.0).collect();
+            let clock = calls[at][0];
+            calls.insert(at, [clock, 1, 23, 0, 0, 0]);
+            let refused = history(&calls);
+            assert_eq!((code(&refused[at]), check(&refused)), (35, None));
+            assert_eq!(code(refused.last().unwrap()), 0);
+            calls[at] = [clock, 0, 23, 0, 0, 0];
+            calls.insert(at, [clock, 0, 23, 3, 0, 0]);
+            let taken = history(&calls);
+            assert_eq!((code(&taken[at]), code(&taken[at + 1])), (0, 0));
+            assert_eq!((check(&taken), check_rights(&taken)), (None, None));
+            let before_connect = at <= 5;
+            assert_eq!(taken.iter().any(|entry| code(entry) == 35), before_connect);
+            // Without the conversation there is nothing unfinished.
+            assert_eq!(code(taken.last().unwrap()), 0);
+        }
     }
 }

@@ -34,6 +34,11 @@ pub enum Meaning {
     Vote,
     /// 1 where it can't start a new transaction, else 0.
     CantStart,
+    /// A party's set of rights: twice the party, plus 1 for the advertising set.
+    Rights,
+    /// Services 1 to 32 of a set, and services 33 to 64.
+    LowServices,
+    HighServices,
 }
 
 impl Meaning {
@@ -91,6 +96,8 @@ pub enum Tried {
     Caller,
     /// One caller in five, for what it does is heavy.
     SomeCaller,
+    /// One caller in five, for it is another's to make.
+    SeldomCaller,
     /// Each open request end.
     Request,
     /// Each end of a conversation.
@@ -223,7 +230,7 @@ pub const KINDS: &[Row] = {
             arguments: [ToOffer, Nothing, Nothing],
             weights: &[(Unfit, 1), (Fit, 20), (More, 4)],
             moods: &[(Services, Fit, 30)],
-            codes: &[0, 22, 26],
+            codes: &[0, 22, 26, 35],
             ..PLAIN
         },
         Row {
@@ -245,7 +252,7 @@ pub const KINDS: &[Row] = {
                 (Talk, Serving, 2),
                 (Talk, Heard, 1),
             ],
-            codes: &[0, 22, 23, 25, 26, 28],
+            codes: &[0, 22, 23, 25, 26, 28, 35],
             ..PLAIN
         },
         Row {
@@ -259,7 +266,7 @@ pub const KINDS: &[Row] = {
                 (Talk, Serving, 6),
                 (Talk, Heard, 4),
             ],
-            codes: &[0, 22, 23, 25, 26, 28],
+            codes: &[0, 22, 23, 25, 26, 28, 35],
             ..PLAIN
         },
         Row {
@@ -342,6 +349,14 @@ pub const KINDS: &[Row] = {
             arguments: [Manager, Vote, CantStart],
             weights: &[(Unfit, 1), (Fit, 2), (More, 3), (Heard, 20)],
             codes: &[0, 23, 34],
+            ..PLAIN
+        },
+        Row {
+            number: 23,
+            word: "setRights",
+            arguments: [Rights, LowServices, HighServices],
+            tried: Tried::SeldomCaller,
+            codes: &[0, 22, 35],
             ..PLAIN
         },
     ]

@@ -90,6 +90,14 @@ pub fn fresh(m: &mut Monitor) {
     unsafe { monitor_fresh(m) }
 }
 
+/// A record made fresh by the library, of words that all were the greatest.
+pub fn made() -> Monitor {
+    let mut m = Monitor::fresh();
+    m.words_mut().fill(u32::MAX);
+    fresh(&mut m);
+    m
+}
+
 pub fn is_sound(m: &Monitor) -> bool {
     unsafe { monitor_sound(m) }
 }

@@ -18,6 +18,8 @@ pub const LONGEST_TIMEOUT: u32 = 2_147_483_647;
 pub const MANAGERS: usize = 4;
 /// The greatest number of a report.
 pub const LAST_REPORT: u32 = 14;
+/// The set of all services, 1 to 64.
+pub const ALL_SERVICES: u64 = u64::MAX;
 
 /// Outcomes of a service.
 pub const SUCCESS: u8 = 8;
@@ -78,6 +80,15 @@ pub struct Party {
     /// Each manager's report on the owned transaction: 0 none, 1 + b where the
     /// manager can start a new transaction, 8 + b where it can't.
     pub reports: [u32; MANAGERS],
+    /// The services that it may request, as `services`.
+    pub may_request: u64,
+    /// The services that it may advertise.
+    pub may_advertise: u64,
+}
+
+/// Whether a service, any number, is in a set.
+pub const fn has(set: u64, service: u32) -> bool {
+    1 <= service && service <= 64 && set >> (service - 1) & 1 == 1
 }
 
 impl Party {
@@ -92,6 +103,8 @@ impl Party {
             control: 0,
             doomed: false,
             reports: [0; MANAGERS],
+            may_request: ALL_SERVICES,
+            may_advertise: ALL_SERVICES,
         }
     }
 
@@ -160,7 +173,7 @@ impl Party {
     }
 
     fn offers(&self, service: u32) -> bool {
-        (1..=64).contains(&service) && self.services >> (service - 1) & 1 == 1
+        has(self.services, service)
     }
 }
 
@@ -676,6 +689,7 @@ impl Monitor {
     fn advertise(&mut self, p: usize, a: u32) -> Decision {
         ask((1..=64).contains(&a), 22)?;
         let party = &mut self.parties[p];
+        ask(has(party.may_advertise, a), 35)?;
         ask(party.offers(a) || party.services.count_ones() < OFFERED, 26)?;
         party.services |= 1 << (a - 1);
         Ok(Reply::value(party.services.count_ones()))
@@ -697,10 +711,13 @@ impl Monitor {
             Kind::Conversation => matches!(b, 4 | 6 | 8 | 10),
         };
         ask((1..=64).contains(&a) && good_flags, 22)?;
+        let right = has(self.parties[p].may_request, a);
+        ask(right || is_on(Fault::RightAfterOffered), 35)?;
         let transaction = if b & 2 == 0 { t } else { 0 };
         ask(!self.is_ended(transaction), 23)?;
         ask(!self.is_expired(transaction), 28)?;
         ask(self.parties.iter().any(|party| party.offers(a)), 25)?;
+        ask(right, 35)?;
         ask(self.link_count < LINKS && self.last_link < LAST_NUMBER, 26)?;
         self.last_link += 1;
         let no_reply = b & 1 != 0;
@@ -733,9 +750,13 @@ impl Monitor {
             party.opened && party.served == 0 && self.transaction(p) == 0 && !self.has_open_end(p),
             23,
         )?;
+        let takes = |service| {
+            let right = has(party.may_advertise, service) || !is_on(Fault::TakeAsksRight);
+            party.offers(service) && right
+        };
         let link = self.links[..self.link_count]
             .iter_mut()
-            .find(|link| link.state == State::Waiting && party.offers(link.service))
+            .find(|link| link.state == State::Waiting && takes(link.service))
             .ok_or(32)?;
         link.state = State::Working;
         link.server = p as u8;
@@ -968,7 +989,12 @@ impl Monitor {
             self.close_own_links(p);
             self.end_transaction(p);
         }
+        let fell = self.parties[p];
         self.parties[p] = Party::fresh();
+        if !is_on(Fault::FallResetsRights) {
+            self.parties[p].may_request = fell.may_request;
+            self.parties[p].may_advertise = fell.may_advertise;
+        }
         Ok(Reply::value(if serving { u32::from(ERROR) } else { 0 }))
     }
 
@@ -983,6 +1009,31 @@ impl Monitor {
         if *report == 0 || !is_on(Fault::FirstReportStands) {
             *report = Party::report(b, c == 1);
         }
+        Ok(Reply::code(0))
+    }
+
+    // The rights' kind.
+
+    fn set_rights(&mut self, p: usize, a: u32, b: u32, c: u32) -> Decision {
+        ask(p == 0 || is_on(Fault::AnyoneSetsRights), 35)?;
+        ask(a < 2 * PARTIES as u32, 22)?;
+        let [low, high] = if is_on(Fault::HalvesExchanged) {
+            [c, b]
+        } else {
+            [b, c]
+        };
+        let of = if is_on(Fault::PartyByRemainder) {
+            a % PARTIES as u32
+        } else {
+            a / 2
+        };
+        let party = &mut self.parties[of as usize];
+        let set = if a % 2 == 0 {
+            &mut party.may_request
+        } else {
+            &mut party.may_advertise
+        };
+        *set = u64::from(low) | u64::from(high) << 32;
         Ok(Reply::code(0))
     }
 
@@ -1014,14 +1065,15 @@ impl Monitor {
             19 => self.disconnect(p, a),
             20 => self.return_service(p, a, c),
             21 => self.fall(p),
-            _ => self.report(p, a, b, c),
+            22 => self.report(p, a, b, c),
+            _ => self.set_rights(p, a, b, c),
         }
     }
 
     /// A call on a sound record: everything after question 19.
     pub(crate) fn step_sound(&mut self, call: [u32; 6]) -> [i64; 6] {
         let [clock, party, kind, a, b, c] = call;
-        if !(1..=22).contains(&kind) {
+        if !(1..=23).contains(&kind) {
             if is_on(Fault::ClockMovedByUnknownKind) {
                 self.clock = self.clock.max(clock);
             }
@@ -1456,8 +1508,9 @@ mod tests {
     fn order_of_first_questions() {
         let mut m = Monitor::fresh();
         assert_eq!(step(&mut m, [5, 16, 0, 0, 0, 0])[0], 20);
-        assert_eq!(step(&mut m, [5, 16, 23, 0, 0, 0])[0], 20);
-        assert_eq!(step(&mut m, [5, 16, 22, 0, 0, 0])[0], 21);
+        assert_eq!(step(&mut m, [5, 16, 24, 0, 0, 0])[0], 20);
+        assert_eq!(step(&mut m, [5, 16, 99, 0, 0, 0])[0], 20);
+        assert_eq!(step(&mut m, [5, 16, 23, 0, 0, 0])[0], 21);
         assert_eq!(m.clock, 0);
     }
 
@@ -1662,7 +1715,7 @@ mod tests {
             // The served link's transaction is ended.
             ([0, 1, 22, 0, 0, 0], refused(1)),
             ([0, 16, 22, 0, 0, 0], [21, 0, 0, 0, 0, 0]),
-            ([0, 0, 23, 0, 0, 0], [20, 0, 0, 0, 0, 0]),
+            ([0, 0, 99, 0, 0, 0], [20, 0, 0, 0, 0, 0]),
         ]);
         assert!(m.parties.iter().all(|party| party.reports == [0; 4]));
     }
@@ -2061,6 +2114,402 @@ mod tests {
                     let mut m = m.clone();
                     report(&mut m, a, b, c);
                     assert!(equal(&m, &m.clone()));
+                    assert!(kept.iter().all(|other| !equal(&m, other)));
+                    kept.push(m);
+                }
+            }
+        }
+    }
+    /// The place of a service in a set's halves: b and c without it.
+    fn all_but(service: u32) -> [u32; 2] {
+        match service {
+            1..=32 => [!(1 << (service - 1)), u32::MAX],
+            _ => [u32::MAX, !(1 << (service - 33))],
+        }
+    }
+
+    /// The halves of a set that has only this service.
+    fn only(service: u32) -> [u32; 2] {
+        all_but(service).map(|half| !half)
+    }
+
+    const ALL: [u32; 2] = [u32::MAX; 2];
+    const NONE_AT_ALL: [u32; 2] = [0; 2];
+
+    /// Party 0 sets what a party may request (0) or advertise (1).
+    fn set_rights(m: &mut Monitor, party: u32, which: u32, [b, c]: [u32; 2]) {
+        let t = i64::from(m.transaction(0));
+        let call = [0, 0, 23, 2 * party + which, b, c];
+        assert_eq!(step(m, call), [0, 0, 0, 0, 0, t], "{call:?}");
+    }
+
+    /// A fresh party may do all, the one exception to all zero.
+    #[test]
+    fn fresh_rights() {
+        let m = Monitor::fresh();
+        for party in m.parties {
+            assert_eq!(
+                (party.may_request, party.may_advertise),
+                (u64::MAX, u64::MAX)
+            );
+        }
+        for service in 1..=64 {
+            let mut m = Monitor::fresh();
+            let calls = [[0, 9, 10, service, 0, 0], [0, 9, 12, service, 0, 0]];
+            assert_eq!(codes(&mut m, &calls), [0, 0]);
+        }
+    }
+
+    /// Each of the 32 sets, each service of it: b has 1 to 32, lowest bit first,
+    /// c the rest; nothing else is changed.
+    #[test]
+    fn rights_are_set() {
+        for a in 0..32 {
+            for service in 1..=64 {
+                let mut m = Monitor::fresh();
+                let [b, c] = only(service);
+                assert_eq!(step(&mut m, [7, 0, 23, a, b, c]), [0; 6]);
+                let mut expected = Monitor::fresh();
+                expected.clock = 7;
+                let party = &mut expected.parties[a as usize / 2];
+                if a % 2 == 0 {
+                    party.may_request = 1 << (service - 1);
+                } else {
+                    party.may_advertise = 1 << (service - 1);
+                }
+                assert!(equal(&m, &expected));
+            }
+        }
+        let mut m = Monitor::fresh();
+        assert_eq!(step(&mut m, [0, 0, 23, 13, 0x8000_0001, 6]), [0; 6]);
+        assert_eq!(m.parties[6].may_advertise, 0x6_8000_0001);
+        // It is replaced whole.
+        assert_eq!(step(&mut m, [0, 0, 23, 13, 2, 0]), [0; 6]);
+        assert_eq!(m.parties[6].may_advertise, 2);
+        assert_eq!(m.parties[6].may_request, u64::MAX);
+    }
+
+    /// Only party 0: 35, asked first, also with a bad a; then a: 22. Both move
+    /// the clock, and change nothing else.
+    #[test]
+    fn who_sets_rights() {
+        let mut m = Monitor::fresh();
+        for party in 1..16 {
+            for a in [0, 2 * party, 2 * party + 1, 31, 32, 33, u32::MAX] {
+                assert_eq!(step(&mut m, [party, party, 23, a, 0, 0])[0], 35);
+            }
+        }
+        for a in [32, 33, 34, 63, 64, 256, 1 << 31, u32::MAX] {
+            assert_eq!(step(&mut m, [20, 0, 23, a, 0, 0]), [22, 0, 0, 0, 0, 0]);
+        }
+        assert_eq!(step(&mut m, [30, 16, 23, 32, 0, 0])[0], 21);
+        assert_eq!(m.clock, 20);
+        m.clock = 0;
+        assert!(equal(&m, &Monitor::fresh()));
+        assert_eq!(step(&mut m, [30, 1, 23, 32, 0, 0]), [35, 0, 0, 0, 0, 0]);
+        assert_eq!(m.clock, 30);
+        assert_eq!(step(&mut m, [40, 0, 23, 31, 0, 0]), [0; 6]);
+        assert_eq!(m.clock, 40);
+    }
+
+    /// Party 0 sets rights wherever it is: not opened, in a transaction, which is
+    /// the last field, expired or doomed, and while it serves.
+    #[test]
+    fn rights_are_set_from_any_state() {
+        let mut m = begun(1, true);
+        assert_eq!(step(&mut m, [0, 0, 23, 9, 1, 2]), [0, 0, 0, 0, 0, 1]);
+        assert_eq!(step(&mut m, [0, 0, 23, 32, 1, 2]), [22, 0, 0, 0, 0, 1]);
+        drill(&[
+            ([0, 1, 10, 9, 0, 0], [0, 1, 0, 0, 0, 0]),
+            ([0, 0, 10, 5, 0, 0], [0, 1, 0, 0, 0, 0]),
+            ([0, 0, 1, 0, 0, 0], [0, 0, 0, 0, 0, 0]),
+            ([0, 2, 1, 0, 0, 0], [0, 0, 0, 0, 0, 0]),
+            ([0, 2, 9, 10, 0, 0], [0, 0, 0, 0, 0, 0]),
+            ([5, 2, 3, 0, 0, 0], [0, 0, 0, 0, 0, 1]),
+            ([5, 2, 12, 5, 0, 7], [0, 1, 0, 0, 0, 1]),
+            ([5, 0, 14, 0, 0, 0], [0, 1, 64, 7, 5, 1]),
+            ([15, 0, 23, 4, 0, 0], [0, 0, 0, 0, 0, 1]),
+            ([15, 2, 12, 9, 0, 7], [35, 0, 0, 0, 0, 1]),
+            ([15, 2, 23, 4, 0, 0], [35, 0, 0, 0, 0, 1]),
+            ([15, 0, 12, 9, 0, 7], [28, 0, 0, 0, 0, 1]),
+            ([15, 0, 23, 0, 0, 0], [0, 0, 0, 0, 0, 1]),
+            ([15, 0, 12, 9, 0, 7], [35, 0, 0, 0, 0, 1]),
+            ([15, 0, 23, 0, u32::MAX, 0], [0, 0, 0, 0, 0, 1]),
+            ([15, 0, 12, 9, 0, 7], [28, 0, 0, 0, 0, 1]),
+            ([15, 0, 20, 1, 0, 8], [0, 8, 0, 0, 0, 0]),
+        ]);
+    }
+
+    /// Advertising asks the advertising set after 22 and before 26, of a service
+    /// that is offered already too; requests ask the requesting one.
+    #[test]
+    fn advertising_asks() {
+        for service in [1, 31, 32, 33, 34, 63, 64] {
+            let mut m = Monitor::fresh();
+            set_rights(&mut m, 3, 1, all_but(service));
+            set_rights(&mut m, 4, 0, NONE_AT_ALL);
+            for other in 1..=64 {
+                let mut m = m.clone();
+                let code = if other == service { 35 } else { 0 };
+                assert_eq!(step(&mut m, [0, 3, 10, other, 0, 0])[0], code);
+                assert_eq!(step(&mut m, [0, 4, 10, other, 0, 0])[0], 0);
+                // Kind 11 asks no right.
+                let code = if other == service { 25 } else { 0 };
+                assert_eq!(step(&mut m, [0, 3, 11, other, 0, 0])[0], code);
+            }
+            set_rights(&mut m, 3, 1, only(service));
+            for other in 1..=64 {
+                let mut m = m.clone();
+                let code = if other == service { 0 } else { 35 };
+                assert_eq!(step(&mut m, [0, 3, 10, other, 0, 0])[0], code);
+            }
+        }
+        let mut m = Monitor::fresh();
+        set_rights(&mut m, 3, 1, NONE_AT_ALL);
+        for bad in [0, 65, 256, u32::MAX] {
+            assert_eq!(step(&mut m, [0, 3, 10, bad, 0, 0])[0], 22);
+        }
+        // Before 26, and of an offered one.
+        let mut m = Monitor::fresh();
+        for service in 1..=8 {
+            assert_eq!(step(&mut m, [0, 3, 10, service, 0, 0])[0], 0);
+        }
+        assert_eq!(step(&mut m, [0, 3, 10, 9, 0, 0])[0], 26);
+        set_rights(&mut m, 3, 1, [0xF0, 0]);
+        assert_eq!(step(&mut m, [0, 3, 10, 9, 0, 0])[0], 35);
+        assert_eq!(step(&mut m, [0, 3, 10, 1, 0, 0]), [35, 0, 0, 0, 0, 0]);
+        assert_eq!(step(&mut m, [0, 3, 10, 5, 0, 0]), [0, 8, 0, 0, 0, 0]);
+        assert_eq!(step(&mut m, [0, 3, 11, 1, 0, 0]), [0, 7, 0, 0, 0, 0]);
+        assert_eq!(step(&mut m, [0, 3, 10, 1, 0, 0])[0], 35);
+    }
+
+    /// Requests and conversations ask the requesting set, with every flag.
+    #[test]
+    fn requesting_asks() {
+        for service in [1, 31, 32, 33, 34, 63, 64] {
+            for (kind, flags) in [(12, &[0, 1, 2, 3][..]), (13, &[4, 6, 8, 10])] {
+                for &b in flags {
+                    let mut m = Monitor::fresh();
+                    set_rights(&mut m, 3, 0, all_but(service));
+                    set_rights(&mut m, 3, 1, only(service));
+                    set_rights(&mut m, 5, 0, only(service));
+                    for other in 1..=64 {
+                        let mut m = m.clone();
+                        step(&mut m, [0, 9, 10, other, 0, 0]);
+                        let found = codes(
+                            &mut m,
+                            &[[0, 3, kind, other, b, 7], [0, 5, kind, other, b, 7]],
+                        );
+                        let expected = if other == service { [35, 0] } else { [0, 35] };
+                        assert_eq!(found, expected, "{other}");
+                    }
+                }
+            }
+        }
+    }
+
+    /// 35 stands after 22 and before 23, 28, 25 and 26.
+    #[test]
+    fn place_of_35_in_requests() {
+        let refused = |m: &Monitor, party: u32, b: u32, service: u32, code: i64| {
+            for (kind, b) in [(12, b), (13, 4 | b)] {
+                let mut m = m.clone();
+                let call = [m.clock, party, kind, service, b, 7];
+                assert_eq!(step(&mut m, call)[0], code, "{call:?}");
+                set_rights(&mut m, party, 0, all_but(service));
+                assert_eq!(step(&mut m, call)[0], 35, "{call:?}");
+                set_rights(&mut m, party, 0, ALL);
+                assert_eq!(step(&mut m, call)[0], code, "{call:?}");
+            }
+        };
+        // 25: nobody offers it.
+        let mut m = Monitor::fresh();
+        refused(&m, 3, 0, 5, 25);
+        refused(&m, 3, 2, 40, 25);
+        // 22: a bad service, and bad flags.
+        set_rights(&mut m, 3, 0, NONE_AT_ALL);
+        for [kind, a, b] in [
+            [12, 0, 0],
+            [12, 65, 0],
+            [12, 5, 4],
+            [13, 0, 4],
+            [13, 65, 4],
+            [13, 5, 0],
+            [13, 5, 12],
+        ] {
+            assert_eq!(step(&mut m, [0, 3, kind, a, b, 0])[0], 22);
+        }
+        // A bare 1 in T.
+        let mut m = begun(0, false);
+        set_rights(&mut m, 0, 0, NONE_AT_ALL);
+        assert_eq!(step(&mut m, [0, 0, 12, 5, 1, 0])[0], 22);
+        assert_eq!(step(&mut m, [0, 0, 12, 5, 0, 0])[0], 35);
+        // 26: 32 links, or no number left.
+        let mut full = Monitor::fresh();
+        step(&mut full, [0, 9, 10, 5, 0, 0]);
+        for _ in 0..32 {
+            assert_eq!(step(&mut full, [0, 8, 12, 5, 0, 0])[0], 0);
+        }
+        refused(&full, 3, 0, 5, 26);
+        let mut spent = Monitor::fresh();
+        step(&mut spent, [0, 9, 10, 5, 0, 0]);
+        spent.last_link = LAST_NUMBER;
+        refused(&spent, 3, 2, 5, 26);
+        // 23 and 28: a server in a transaction that has expired, and has ended.
+        let mut m = Monitor::fresh();
+        let calls = [
+            [0, 2, 1, 0, 0, 0],
+            [0, 3, 1, 0, 0, 0],
+            [0, 3, 10, 5, 0, 0],
+            [0, 2, 9, 10, 0, 0],
+            [5, 2, 3, 0, 0, 0],
+            [5, 2, 12, 5, 0, 7],
+            [5, 3, 14, 0, 0, 0],
+        ];
+        assert_eq!(codes(&mut m, &calls), [0; 7]);
+        let mut late = m.clone();
+        step(&mut late, [15, 2, 6, 0, 0, 0]);
+        refused(&late, 3, 0, 5, 28);
+        refused(&late, 2, 0, 5, 28);
+        step(&mut m, [5, 2, 5, 0, 0, 0]);
+        refused(&m, 3, 0, 5, 23);
+    }
+
+    /// An offer and a link live on when rights shrink: others request the
+    /// service, it is taken and answered, and can be withdrawn; only offering it
+    /// again, and asking for it again, is 35.
+    #[test]
+    fn rights_shrink() {
+        let m = drill(&[
+            ([0, 1, 1, 0, 0, 0], [0, 0, 0, 0, 0, 0]),
+            ([0, 1, 10, 40, 0, 0], [0, 1, 0, 0, 0, 0]),
+            ([0, 2, 12, 40, 0, 7], [0, 1, 0, 0, 0, 0]),
+            ([0, 0, 23, 3, 0, 0], [0, 0, 0, 0, 0, 0]),
+            ([0, 0, 23, 4, 0, 0], [0, 0, 0, 0, 0, 0]),
+            ([0, 1, 10, 40, 0, 0], [35, 0, 0, 0, 0, 0]),
+            ([0, 2, 12, 40, 0, 8], [35, 0, 0, 0, 0, 0]),
+            ([0, 3, 13, 40, 4, 9], [0, 2, 0, 0, 0, 0]),
+            ([0, 1, 14, 0, 0, 0], [0, 1, 64, 7, 40, 0]),
+            ([0, 1, 20, 1, 0, 11], [0, 8, 0, 0, 0, 0]),
+            ([0, 2, 15, 1, 0, 0], [0, 0, 0, 11, 0, 0]),
+            ([0, 3, 17, 2, 1, 12], [0, 0, 0, 0, 0, 0]),
+            ([0, 0, 23, 6, 0, 0], [0, 0, 0, 0, 0, 0]),
+            ([0, 1, 14, 0, 0, 0], [0, 2, 65, 9, 40, 0]),
+            ([0, 1, 18, 2, 0, 0], [29, 0, 32, 12, 0, 0]),
+            ([0, 1, 17, 2, 0, 13], [0, 0, 0, 0, 0, 0]),
+            ([0, 3, 18, 2, 0, 0], [0, 0, 0, 13, 0, 0]),
+            ([0, 1, 20, 1, 0, 14], [0, 8, 0, 0, 0, 0]),
+            ([0, 3, 18, 2, 0, 0], [29, 0, 8, 14, 0, 0]),
+            ([0, 1, 11, 40, 0, 0], [0, 0, 0, 0, 0, 0]),
+            ([0, 1, 10, 40, 0, 0], [35, 0, 0, 0, 0, 0]),
+            ([0, 1, 11, 40, 0, 0], [25, 0, 0, 0, 0, 0]),
+            ([0, 0, 23, 3, 0, 128], [0, 0, 0, 0, 0, 0]),
+            ([0, 1, 10, 40, 0, 0], [0, 1, 0, 0, 0, 0]),
+        ]);
+        assert_eq!(m.link_count, 0);
+    }
+
+    /// A fall keeps both sets, of party 0 as of any other, whether it serves or
+    /// not; all else of the party is fresh.
+    #[test]
+    fn falls_keep_rights() {
+        for p in [0, 1, 15] {
+            for serving in [false, true] {
+                let mut m = Monitor::fresh();
+                let other = 7;
+                let calls = [
+                    [0, p, 1, 0, 0, 0],
+                    [0, p, 8, 1, 0, 0],
+                    [0, p, 9, 10, 0, 0],
+                    [0, p, 10, 5, 0, 0],
+                    [0, other, 12, 5, 0, 7],
+                    [0, p, 14, 0, 0, 0],
+                    [0, p, 3, 0, 0, 0],
+                    [0, p, 22, 0, 2, 1],
+                ];
+                for call in calls {
+                    let skipped = !serving && matches!(call[2], 12 | 14);
+                    assert!(skipped || step(&mut m, call)[0] == 0);
+                }
+                set_rights(&mut m, p, 0, [1, 2]);
+                set_rights(&mut m, p, 1, [3, 4]);
+                set_rights(&mut m, other, 0, [5, 6]);
+                let value = if serving { 2 } else { 0 };
+                assert_eq!(step(&mut m, [0, p, 21, 0, 0, 0]), [0, value, 0, 0, 0, 0]);
+                let expected = Party {
+                    may_request: 1 | 2 << 32,
+                    may_advertise: 3 | 4 << 32,
+                    ..Party::fresh()
+                };
+                assert_eq!(m.parties[p as usize], expected);
+                assert_eq!(m.parties[other as usize].may_request, 5 | 6 << 32);
+                assert_eq!(step(&mut m, [0, p, 10, 5, 0, 0])[0], 35);
+                assert_eq!(step(&mut m, [0, p, 12, 5, 0, 0])[0], 35);
+            }
+        }
+    }
+
+    /// The sets outlive open and close, and the end of a transaction and of a
+    /// service.
+    #[test]
+    fn rights_outlive() {
+        let mut m = Monitor::fresh();
+        set_rights(&mut m, 1, 0, [1, 2]);
+        set_rights(&mut m, 1, 1, [16, 4]);
+        for call in [
+            [0, 1, 1, 0, 0, 0],
+            [0, 1, 2, 0, 0, 0],
+            [0, 1, 1, 0, 0, 0],
+            [0, 1, 3, 0, 0, 0],
+            [0, 1, 4, 0, 0, 0],
+            [0, 1, 3, 0, 0, 0],
+            [0, 1, 5, 0, 0, 0],
+            [0, 1, 10, 5, 0, 0],
+            [0, 2, 12, 5, 0, 0],
+            [0, 1, 14, 0, 0, 0],
+            [0, 1, 20, 1, 0, 0],
+            [0, 1, 11, 5, 0, 0],
+        ] {
+            assert_eq!(step(&mut m, call)[0], 0, "{call:?}");
+            let of = m.parties[1];
+            assert_eq!(of.may_request, 1 | 2 << 32);
+            assert_eq!(of.may_advertise, 16 | 4 << 32);
+        }
+    }
+
+    /// Party 0 may take rights from itself, and give them back.
+    #[test]
+    fn own_rights_of_party_0() {
+        let mut m = Monitor::fresh();
+        step(&mut m, [0, 9, 10, 5, 0, 0]);
+        set_rights(&mut m, 0, 0, NONE_AT_ALL);
+        set_rights(&mut m, 0, 1, NONE_AT_ALL);
+        let calls = [
+            [0, 0, 10, 5, 0, 0],
+            [0, 0, 12, 5, 0, 0],
+            [0, 0, 13, 5, 4, 0],
+        ];
+        assert_eq!(codes(&mut m, &calls), [35; 3]);
+        set_rights(&mut m, 0, 1, ALL);
+        assert_eq!(codes(&mut m, &calls), [0, 35, 35]);
+        set_rights(&mut m, 0, 0, ALL);
+        assert_eq!(codes(&mut m, &calls), [0; 3]);
+    }
+
+    /// Every set is sound, and equality compares both.
+    #[test]
+    fn soundness_and_equality_of_rights() {
+        let mut kept: Vec<Monitor> = vec![Monitor::fresh()];
+        for p in 0..16 {
+            for set in [0, 1, 1 << 63, 1 << 32, u64::MAX - 1] {
+                for which in 0..2 {
+                    let mut m = Monitor::fresh();
+                    if which == 0 {
+                        m.parties[p].may_request = set;
+                    } else {
+                        m.parties[p].may_advertise = set;
+                    }
+                    assert!(m.is_sound() && equal(&m, &m.clone()));
                     assert!(kept.iter().all(|other| !equal(&m, other)));
                     kept.push(m);
                 }

@@ -1,4 +1,4 @@
-//! The record as a host of the proved monitor holds it: 836 words. This implementation's record in those words, and back.
+//! The record as a host of the proved monitor holds it: 900 words. This implementation's record in those words, and back.
 
 use crate::monitor::{self as plain, Cut, End, Kind, State, LINKS, MANAGERS, PARTIES, UNREAD};
 
@@ -10,7 +10,7 @@ pub fn long(x: u64) -> Long {
 }
 
 #[repr(C)]
-#[derive(Clone, Copy, Debug, Default, PartialEq, Eq)]
+#[derive(Clone, Copy, Debug, PartialEq, Eq)]
 pub struct Party {
     pub opened: u32,
     pub control: u32,
@@ -21,6 +21,8 @@ pub struct Party {
     pub rollbackonly: u32,
     pub served: u32,
     pub reports: [u32; MANAGERS],
+    pub mayrequest: Long,
+    pub mayadvertise: Long,
 }
 
 #[repr(C)]
@@ -45,7 +47,7 @@ pub struct Link {
 }
 
 #[repr(C)]
-#[derive(Clone, Copy, Debug, Default, PartialEq, Eq)]
+#[derive(Clone, Copy, Debug, PartialEq, Eq)]
 pub struct Monitor {
     pub clock: u32,
     pub lastlink: u32,
@@ -56,12 +58,17 @@ pub struct Monitor {
 }
 
 /// How many words a record has.
-pub const WORDS: usize = 4 + 14 * PARTIES + 19 * LINKS;
+pub const WORDS: usize = 4 + 18 * PARTIES + 19 * LINKS;
 
 const _: () = assert!(size_of::<Monitor>() == WORDS * 4);
 
 // It is of numbers of 32 bits alone: there are no gaps, and any words are a record.
 impl Monitor {
+    /// This implementation's fresh record; a record of zeros has no rights.
+    pub fn fresh() -> Self {
+        record(&plain::Monitor::fresh())
+    }
+
     pub fn words(&self) -> &[u32; WORDS] {
         unsafe { &*std::ptr::from_ref(self).cast() }
     }
@@ -84,7 +91,7 @@ pub fn record(m: &plain::Monitor) -> Monitor {
         lasttx: m.last_transaction,
         count: m.link_count as u32,
         parties: m.parties.map(party),
-        ..Monitor::default()
+        links: [Link::default(); LINKS],
     };
     for (place, l) in r.links.iter_mut().zip(m.links()) {
         *place = link(l);
@@ -103,6 +110,8 @@ fn party(p: plain::Party) -> Party {
         rollbackonly: p.doomed.into(),
         served: p.served,
         reports: p.reports,
+        mayrequest: long(p.may_request),
+        mayadvertise: long(p.may_advertise),
     }
 }
 
@@ -186,6 +195,8 @@ fn held_party(p: &Party) -> Option<plain::Party> {
         control: p.control.try_into().ok()?,
         doomed: choice(p.rollbackonly, &[false, true])?,
         reports: p.reports,
+        may_request: whole(p.mayrequest),
+        may_advertise: whole(p.mayadvertise),
     })
 }
 
@@ -214,6 +225,29 @@ fn held_link(l: &Link) -> Option<plain::Link> {
 mod tests {
     use super::*;
     use crate::generator;
+    use crate::monitor::step;
+
+    /// All zero but for the rights, which are a party's last four words.
+    #[test]
+    fn fresh_words() {
+        assert_eq!(WORDS, 900);
+        for (at, &word) in Monitor::fresh().words().iter().enumerate() {
+            let right = (4..292).contains(&at) && (at - 4) % 18 >= 14;
+            assert_eq!(word, if right { u32::MAX } else { 0 }, "word {at}");
+        }
+    }
+
+    /// Requesting before advertising, services 1 to 32 before the others.
+    #[test]
+    fn words_of_rights() {
+        let mut m = plain::Monitor::fresh();
+        step(&mut m, [0, 0, 23, 6, 11, 12]);
+        step(&mut m, [0, 0, 23, 7, 13, 14]);
+        let words = record(&m);
+        assert_eq!(words.words()[4 + 3 * 18 + 14..][..4], [11, 12, 13, 14]);
+        assert_eq!(words.parties[3].mayrequest, [11, 12]);
+        assert_eq!(words.parties[3].mayadvertise, [13, 14]);
+    }
 
     #[test]
     fn there_and_back() {

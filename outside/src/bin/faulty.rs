@@ -13,8 +13,9 @@ type Call = [u32; 6];
 
 /// The longest history that is searched.
 const LENGTH: usize = 400;
-/// A kind that there is not.
-const UNKNOWN_KIND: u32 = LAST_KIND + 1;
+/// A kind that there is not, nor will be soon.
+const UNKNOWN_KIND: u32 = 99;
+const _: () = assert!(UNKNOWN_KIND > LAST_KIND);
 /// How many that fail are made shorter.
 const ENOUGH: usize = 100;
 
@@ -27,7 +28,7 @@ fn broken(entries: &[Entry]) -> Option<&'static str> {
         Broken::WronglyCommitted { .. } if at_work => Some("commit and alone"),
         Broken::WronglyCommitted { .. } | Broken::WronglyRolledBack { .. } => Some("commit"),
         Broken::AtWork { .. } => Some("alone"),
-        Broken::Refusal { .. } => None,
+        Broken::Refusal { .. } | Broken::Rights { .. } => None,
     }
 }
 

@@ -4,16 +4,18 @@
 //! Also asked: a step keeps a record sound; a refusal changes nothing but the
 //! clock (and up to question 21 nothing at all) and has zeros beside its number
 //! and T; a fetch of any reply is told by fetches by number; a commit's code is
-//! the most severe of what its managers' reports give two by two; a list does
-//! what its calls do; a drill file is read as written; and the same on records
-//! no list reaches, made by changing fields at random.
+//! the most severe of what its managers' reports give two by two; what a right
+//! forbids is 35 and the rest is as with all rights; a list does what its calls
+//! do; a drill file is read as written; and the same on records no list reaches,
+//! made by changing fields at random. Of a history, its rights are also read off
+//! the calls and answers alone.
 
 use outside::drill;
 use outside::generator::{self, Generator, Rng};
 use outside::history::{self, Entry};
 use outside::monitor::{
-    equal, equal_with_tokens, run_list, step, Cut, End, Kind, Link, Monitor, State, LAST_NUMBER,
-    LINKS, MANAGERS, PARTIES,
+    equal, equal_with_tokens, run_list, step, Cut, End, Kind, Link, Monitor, Party, State,
+    ALL_SERVICES, LAST_NUMBER, LINKS, MANAGERS, PARTIES,
 };
 use std::process::ExitCode;
 
@@ -42,6 +44,16 @@ struct Tally {
     most_turns_on_a_link: u64,
     deepest_nesting: u64,
     full_links: u64,
+    rights_set: u64,
+    /// Kinds 10, 12 and 13 answered 35; of these, of services above 32.
+    not_permitted: [u64; 3],
+    not_permitted_above_32: [u64; 3],
+    /// Accepted while some service was lacking.
+    permitted_by_part: [u64; 3],
+    /// A party took a link of a service that it may no longer advertise.
+    taken_without_right: u64,
+    /// Falls of parties that lack a right.
+    fell_lacking: u64,
     sound_changed_records: u64,
     unsound_records: u64,
 }
@@ -153,8 +165,97 @@ fn check_step(
     match (call[2], call[4]) {
         (15, 1) => check_any_fetch(before, after, call, answer),
         (4 | 5, _) => check_end(before, after, call, answer),
+        (10 | 12 | 13, _) => check_permitted(before, after, call, answer),
+        (21, _) => {
+            let Party {
+                may_request,
+                may_advertise,
+                ..
+            } = before.parties[call[1] as usize];
+            let expected = Party {
+                may_request,
+                may_advertise,
+                ..Party::fresh()
+            };
+            match after.parties[call[1] as usize] == expected {
+                true => Ok(()),
+                false => fail("a fall"),
+            }
+        }
+        (23, _) => check_rights_set(before, after, call, answer),
         _ => Ok(()),
     }
+}
+
+/// What needs a right, from the same call with all rights.
+fn check_permitted(
+    before: &Monitor,
+    after: &Monitor,
+    call: [u32; 6],
+    answer: [i64; 6],
+) -> Result<(), String> {
+    let [_, party, kind, a, ..] = call;
+    let p = party as usize;
+    let mut free = before.clone();
+    free.parties[p].may_request = ALL_SERVICES;
+    free.parties[p].may_advertise = ALL_SERVICES;
+    let mut expected = step(&mut free, call);
+    let own = before.parties[p];
+    let set = match kind {
+        10 => own.may_advertise,
+        _ => own.may_request,
+    };
+    // The set as a list, service 1 first.
+    let may: Vec<bool> = (0..64).map(|n| (set / 2u64.pow(n)) % 2 == 1).collect();
+    if expected[0] != 22 && !may[a as usize - 1] {
+        free = before.clone();
+        free.clock = free.clock.max(call[0]);
+        expected = [35, 0, 0, 0, 0, i64::from(before.transaction(p))];
+    }
+    free.parties[p].may_request = own.may_request;
+    free.parties[p].may_advertise = own.may_advertise;
+    if answer == expected && equal_with_tokens(&free, after) {
+        return Ok(());
+    }
+    Err(format!(
+        "a right: call {call:?} answer {answer:?}, expected {expected:?}, before {before:?}"
+    ))
+}
+
+/// Kind 23, from its words.
+fn check_rights_set(
+    before: &Monitor,
+    after: &Monitor,
+    call: [u32; 6],
+    answer: [i64; 6],
+) -> Result<(), String> {
+    let [clock, party, _, a, b, c] = call;
+    let mut expected = before.clone();
+    expected.clock = expected.clock.max(clock);
+    let code = match (party, a) {
+        (1.., _) => 35,
+        (0, 32..) => 22,
+        (0, _) => 0,
+    };
+    if code == 0 {
+        let of = &mut expected.parties[a as usize >> 1];
+        let set = [&mut of.may_request, &mut of.may_advertise].into_iter();
+        for set in set.skip(a as usize & 1).take(1) {
+            *set = (1..=64)
+                .filter(|&service| match service {
+                    1..=32 => b >> (service - 1) & 1 == 1,
+                    _ => c >> (service - 33) & 1 == 1,
+                })
+                .fold(0, |set, service| set + 2u64.pow(service - 1));
+        }
+    }
+    let t = i64::from(before.transaction(party as usize));
+    if answer == [code, 0, 0, 0, 0, t] && equal_with_tokens(&expected, after) {
+        return Ok(());
+    }
+    Err(format!(
+        "rights: call {call:?} answer {answer:?} before {before:?} after {after:?}"
+    ))
 }
 
 /// The end of a transaction by its owner, from the same end without reports.
@@ -344,6 +445,46 @@ fn tally_history(entries: &[Entry], from: usize, tally: &mut Tally) {
     }
 }
 
+/// Adds to the tally what has to do with rights.
+fn tally_rights(before: &Monitor, call: [u32; 6], answer: [i64; 6], tally: &mut Tally) {
+    let [_, party, kind, a, ..] = call;
+    let Some(of) = before.parties.get(party as usize) else {
+        return;
+    };
+    let place = match kind {
+        10 => 0,
+        12 => 1,
+        13 => 2,
+        14 if answer[0] == 0 => {
+            let right = of.may_advertise >> (answer[4] - 1) & 1 == 1;
+            tally.taken_without_right += u64::from(!right);
+            return;
+        }
+        21 => {
+            let all = of.may_request & of.may_advertise == ALL_SERVICES;
+            tally.fell_lacking += u64::from(!all);
+            return;
+        }
+        23 => {
+            tally.rights_set += u64::from(answer[0] == 0);
+            return;
+        }
+        _ => return,
+    };
+    let set = match kind {
+        10 => of.may_advertise,
+        _ => of.may_request,
+    };
+    match answer[0] {
+        35 => {
+            tally.not_permitted[place] += 1;
+            tally.not_permitted_above_32[place] += u64::from(a > 32);
+        }
+        0 => tally.permitted_by_part[place] += u64::from(set != ALL_SERVICES),
+        _ => {}
+    }
+}
+
 /// The transaction that the party's latest answer past question 21 ends in.
 fn last_answer(entries: &[Entry], party: u32) -> i64 {
     let mut own = entries.iter().rev();
@@ -382,6 +523,9 @@ fn check_history(
         return Err(format!("history: {broken:?} in {entries:?}"));
     }
     if let Some(broken) = history::check_refusals(entries) {
+        return Err(format!("history: {broken:?} in {entries:?}"));
+    }
+    if let Some(broken) = history::check_rights(entries) {
         return Err(format!("history: {broken:?} in {entries:?}"));
     }
     // The same calls as lent lists, cut anywhere, and as a drill file.
@@ -460,7 +604,7 @@ fn change(m: &mut Monitor, rng: &mut Rng) {
                 1
             };
             let party = &mut m.parties[p];
-            match rng.below(10) {
+            match rng.below(12) {
                 0 => party.opened = !party.opened,
                 1 => party.control = rng.below(if wild { 4 } else { 2 }) as u8,
                 2 => party.timeout = number(rng, 5),
@@ -474,6 +618,17 @@ fn change(m: &mut Monitor, rng: &mut Rng) {
                         true => rng.pick(&[14, 15, 16, 255, 256, u32::MAX]),
                         false => rng.below(15),
                     };
+                }
+                9 | 10 => {
+                    // Without one service, or any set.
+                    let set = match rng.once_in(2) {
+                        true => !(1 << rng.below(64)),
+                        false => u64::from(rng.next_u32()) << 32 | u64::from(rng.next_u32()),
+                    };
+                    match rng.once_in(2) {
+                        true => party.may_request = set,
+                        false => party.may_advertise = set,
+                    }
                 }
                 _ => party.served = if rng.once_in(2) { 0 } else { link },
             }
@@ -580,6 +735,7 @@ fn fuzz(seed: u64, count: u64, tally: &mut Tally) -> Result<(), String> {
             let before = m.clone();
             let answer = step(&mut m, call);
             check_step(&before, &m, call, answer)?;
+            tally_rights(&before, call, answer, tally);
             entries.push((call, answer));
             tally.deepest_nesting = tally.deepest_nesting.max(nesting(&m));
             tally.full_links += u64::from(m.link_count == LINKS);

@@ -5,7 +5,7 @@
 
 use outside::drill;
 use outside::generator::{self, Rng};
-use outside::lent::{equal, file, fresh, is_sound, run, step, Passed};
+use outside::lent::{equal, file, fresh, is_sound, made, run, step, Passed};
 use outside::monitor::{self as plain, LINKS, PARTIES};
 use outside::words::{held, record, Link, Monitor, RETURNED, WAITING, WORDS, WORKING};
 
@@ -33,7 +33,7 @@ impl Lent {
 
 /// Each call of a history singly.
 fn check_steps(history: impl FnOnce(generator::Give)) -> u64 {
-    let mut lent = Lent::new(Monitor::default());
+    let mut lent = Lent::new(made());
     let mut calls = 0;
     history(&mut |after, call, answer| {
         let before = lent.record;
@@ -53,7 +53,7 @@ fn check_lists(seed: u64, length: u64) -> u64 {
     let mut calls: Vec<u32> = Vec::new();
     generator::random(seed, length, &mut |_, call, _| calls.extend(call));
     let mut rng = Rng::new(seed);
-    let mut lent = Lent::new(Monitor::default());
+    let mut lent = Lent::new(made());
     let mut theirs = plain::Monitor::fresh();
     let mut rest = &calls[..];
     let mut lists = 0;
@@ -89,7 +89,7 @@ fn check_file(seed: u64, length: u64) {
     let mut bytes = Vec::new();
     let mut ends = Vec::new();
     let mut expected = Vec::new();
-    let mut after = Monitor::default();
+    let mut after = made();
     generator::random(seed, length, &mut |m, call, answer| {
         drill::push_call(&call, &mut bytes);
         ends.push(bytes.len());
@@ -103,7 +103,7 @@ fn check_file(seed: u64, length: u64) {
         used: bytes.len(),
     };
     let check = |input: &[u8], code| {
-        let mut lent = Lent::new(Monitor::default());
+        let mut lent = Lent::new(made());
         let mut answers = vec![-77; 6 * calls + 5];
         let passed = file(&mut lent.record, input, &mut answers);
         assert_eq!(passed, Passed { code, ..whole });
@@ -298,7 +298,7 @@ fn check_damages(m: &Monitor, call: [u32; 6]) {
         lent.is(&damaged);
         assert_eq!(answers, [-77; 8], "{name}");
         fresh(&mut lent.record);
-        lent.is(&Monitor::default());
+        lent.is(&Monitor::fresh());
     }
 }
 

@@ -442,7 +442,7 @@ fn fresh_lists(data: &Data, base: &Monitor) {
 }
 
 const HEAD: [&str; 4] = ["clock", "lastlink", "lasttx", "count"];
-const PARTY: [&str; 14] = [
+const PARTY: [&str; 18] = [
     "opened",
     "control",
     "timeout",
@@ -457,6 +457,10 @@ const PARTY: [&str; 14] = [
     "report second",
     "report third",
     "report fourth",
+    "mayrequest low",
+    "mayrequest high",
+    "mayadvertise low",
+    "mayadvertise high",
 ];
 const LINK: [&str; 19] = [
     "number",
@@ -483,8 +487,8 @@ const LINK: [&str; 19] = [
 fn name(at: usize) -> String {
     match at {
         0..4 => HEAD[at].into(),
-        4..228 => format!("party {} {}", (at - 4) / 14, PARTY[(at - 4) % 14]),
-        _ => format!("link at {} {}", (at - 228) / 19, LINK[(at - 228) % 19]),
+        4..292 => format!("party {} {}", (at - 4) / 18, PARTY[(at - 4) % 18]),
+        _ => format!("link at {} {}", (at - 292) / 19, LINK[(at - 292) % 19]),
     }
 }
 
@@ -497,12 +501,18 @@ fn made_fresh(base: &Monitor) {
         let before = equal(m, &Monitor::fresh());
         let made = Monitor::fresh();
         let after = equal(&made, &Monitor::fresh());
-        let zeros = *record(&made).words() == [0; WORDS];
+        let words = record(&made);
+        let is_right = |at: usize| (4..292).contains(&at) && (at - 4) % 18 >= 14;
+        let all = |rights: bool, is: u32| {
+            let mut words = words.words().iter().enumerate();
+            words.all(|(at, &word)| is_right(at) != rights || word == is)
+        };
         println!(
-            "monitor_fresh {name}: equal to fresh before {}, after {}, all words 0 {}",
+            "monitor_fresh {name}: equal to fresh before {}, after {}, rights full {}, other words 0 {}",
             yes(before),
             yes(after),
-            yes(zeros)
+            yes(all(true, u32::MAX)),
+            yes(all(false, 0))
         );
     }
 }

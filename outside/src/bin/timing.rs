@@ -40,7 +40,10 @@ fn empty(calls: usize) -> Calls {
     (0..calls)
         .map(|n| {
             let kind = rng.pick(&kinds);
-            [n as u32, rng.below(16), kind, rng.below(9), rng.below(3), 7]
+            let (party, a, b) = (rng.below(16), rng.below(9), rng.below(3));
+            // Rights stay full.
+            let [b, c] = if kind == 23 { [u32::MAX; 2] } else { [b, 7] };
+            [n as u32, party, kind, a, b, c]
         })
         .collect()
 }
@@ -221,7 +224,7 @@ fn from_memory(load: &Load) -> [f64; 2] {
         60,
         calls,
         || {
-            let mut m = words::Monitor::default();
+            let mut m = words::Monitor::fresh();
             let passed = lent::file(&mut m, black_box(&bytes), &mut ours);
             assert_eq!((passed.code, passed.calls), (0, calls));
         },
