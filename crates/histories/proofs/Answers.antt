@@ -16,7 +16,8 @@ use Rattle.rules.specs.Transaction.{servedTx, txOf, ended, expired, isOwner, ro
 use Rattle.rules.specs.States.{stateOf, nextOf, inState, entered}
 use Rattle.rules.specs.Tx.{openOf, closeOf, beginOf, goOn, commitOf, rollbackOf, infoOf, commitReturnOf, controlOf, timeoutOf}
 use Rattle.rules.specs.Votes.{reportNumber, reportIs, reportOf, decides, someCommitted, someRolledBack, voteCode, codeAfter, commitCode, allCanStart}
-use Rattle.rules.specs.Services.{inSet, offers, countTo, offered, withService, offersNow, advertiseOf, unadvertiseOf}
+use Rattle.rules.specs.Services.{inSet, offers, mayRequest, mayAdvertise, countTo, offered, withService, offersNow, advertiseOf, unadvertiseOf}
+use Rattle.rules.specs.Rights.{granted, rightsOf}
 use Rattle.rules.specs.Requests.{linkTx, askLink, requestOf, connectOf, isIdle, fits, dispatchEvent, dispatched}
 use Rattle.rules.specs.Requests.{dispatchOf}
 use Rattle.rules.specs.Replies.{requestEnd, outcomeCode, fetched, fetchOne, expiredEnd, repliedEnd, fetchAny, fetchOf, cancelled, cancelOf}
@@ -56,7 +57,7 @@ pub real-answered : (k : ℕ) → k < length real → Answered (getD real k [])
 unfolding every right samePlaces pick same noBegin firstOf anyOf collect blanks numbered owns ownEnd linkOf changed goneOf removed servedTx txOf
     ended expired isOwner rollbackOnlyIn deadlineOf beginTx orphaned endOf endTx isOpenOf canCommit stateOf nextOf inState entered openOf closeOf
     beginOf goOn reportNumber reportIs reportOf decides someCommitted someRolledBack voteCode codeAfter commitCode allCanStart commitOf rollbackOf
-    infoOf commitReturnOf controlOf timeoutOf inSet offers countTo offered withService offersNow advertiseOf unadvertiseOf linkTx askLink requestOf
+    infoOf commitReturnOf controlOf timeoutOf inSet offers mayRequest mayAdvertise granted rightsOf countTo offered withService offersNow advertiseOf unadvertiseOf linkTx askLink requestOf
     connectOf isIdle fits dispatchEvent dispatched dispatchOf requestEnd outcomeCode fetched fetchOne expiredEnd repliedEnd fetchAny fetchOf
     cancelled cancelOf originatorEnd serverEnd anyEnd hearsDisconnect hearsReturn endSide isSender tellsDisconnect tellsReturn sendOn sendOf
     carriesGrant received receiveOn receiveOf disconnectedAt disconnectOf plainOutcome outcomeOf unreadAfter closeEnd rollbackOnlyBy closeOwn endOwn

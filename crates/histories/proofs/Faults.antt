@@ -74,7 +74,7 @@ clockMovedByUnknownKind =
     row 0 0 txOpen 0 0 0 (pos 0) 0 0 0 0 0
     ∷ row 0 0 txSetTimeout 1 0 0 (pos 0) 0 0 0 0 0
     ∷ row 0 0 txBegin 0 0 0 (pos 0) 0 0 0 0 1
-    ∷ row 1 0 23 0 0 0 (pos 20) 0 0 0 0 0
+    ∷ row 1 0 99 0 0 0 (pos 20) 0 0 0 0 0
     ∷ row 0 0 txCommit 0 0 0 (negsuc 1) 0 0 0 0 0
     ∷ []
 

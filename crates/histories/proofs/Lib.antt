@@ -5,6 +5,7 @@ pub mod Deadlines
 pub mod Services
 pub mod Replies
 pub mod Votes
+pub mod Rights
 pub mod Owners
 pub mod Faults
 pub mod Verdicts

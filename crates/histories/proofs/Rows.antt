@@ -179,6 +179,9 @@ terminate = 21
 abbrev pub report : ℕ
 report = 22
 
+abbrev pub setRights : ℕ
+setRights = 23
+
 -- a number that is no kind
 abbrev pub noKind : ℕ
 noKind = 4294967295

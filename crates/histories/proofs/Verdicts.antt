@@ -19,17 +19,18 @@ use Rattle.histories.proofs.Deadlines
 use Rattle.histories.proofs.Services
 use Rattle.histories.proofs.Replies
 use Rattle.histories.proofs.Votes
+use Rattle.histories.proofs.Rights
 use Rattle.histories.proofs.Owners
 use Rattle.histories.proofs.Faults
 
 abbrev pub real : List (List Row)
-real = Deaths.real ++ Conversations.real ++ Deadlines.real ++ Services.real ++ Replies.real ++ Votes.real ++ Owners.real
+real = Deaths.real ++ Conversations.real ++ Deadlines.real ++ Services.real ++ Replies.real ++ Votes.real ++ Rights.real ++ Owners.real
 
 abbrev pub spoilt : List Spoilt
-spoilt = Deaths.spoilt ++ Conversations.spoilt ++ Deadlines.spoilt ++ Services.spoilt ++ Replies.spoilt ++ Votes.spoilt ++ Owners.spoilt
+spoilt = Deaths.spoilt ++ Conversations.spoilt ++ Deadlines.spoilt ++ Services.spoilt ++ Replies.spoilt ++ Votes.spoilt ++ Rights.spoilt ++ Owners.spoilt
 
 abbrev pub harmless : List (List Row)
-harmless = Deaths.harmless ++ Conversations.harmless ++ Deadlines.harmless ++ Services.harmless ++ Replies.harmless ++ Votes.harmless ++ Owners.harmless
+harmless = Deaths.harmless ++ Conversations.harmless ++ Deadlines.harmless ++ Services.harmless ++ Replies.harmless ++ Votes.harmless ++ Rights.harmless ++ Owners.harmless
 
 -- the statement holds of it
 abbrev pub kept : List Row → Bool
