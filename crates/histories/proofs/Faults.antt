@@ -172,14 +172,14 @@ successWithOpenEnds =
     ∷ []
 
 -- ---- links and numbers
--- a fetch that is refused with 32 removes the link: committed with the request unfinished
+-- a fetch that is refused with 36 removes the link: committed with the request unfinished
 abbrev pub earlyFetchRemovesLink : List Row
 earlyFetchRemovesLink =
     row 0 0 txOpen 0 0 0 (pos 0) 0 0 0 0 0
     ∷ row 0 0 tpadvertise 7 0 0 (pos 0) 1 0 0 0 0
     ∷ row 0 0 txBegin 0 0 0 (pos 0) 0 0 0 0 1
     ∷ row 0 0 tpacall 7 0 0 (pos 0) 1 0 0 0 1
-    ∷ row 0 0 tpgetrply 1 0 0 (pos 32) 0 0 0 0 1
+    ∷ row 0 0 tpgetrply 1 0 0 (pos 36) 0 0 0 0 1
     ∷ row 0 0 txCommit 0 0 0 (pos 0) 0 0 0 0 0
     ∷ []
 

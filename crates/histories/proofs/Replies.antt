@@ -19,7 +19,7 @@ outOfOrder =
     ∷ row 2 0 tpacall 8 0 80 (pos 0) 2 0 0 0 1
     ∷ row 3 1 dispatch 0 0 0 (pos 0) 1 64 70 7 1
     ∷ row 3 2 dispatch 0 0 0 (pos 0) 2 64 80 8 1
-    ∷ row 4 0 tpgetrply 1 1 0 (pos 32) 0 0 0 0 1
+    ∷ row 4 0 tpgetrply 1 1 0 (pos 36) 0 0 0 0 1
     ∷ row 5 2 tpreturn 1 0 81 (pos 0) 8 0 0 0 0
     ∷ row 6 0 tpgetrply 1 1 0 (pos 0) 2 0 81 0 1
     ∷ row 7 1 tpreturn 1 0 71 (pos 0) 8 0 0 0 0

@@ -169,7 +169,7 @@ stillAtWork =
     ∷ row 2 0 txBegin 0 0 0 (pos 0) 0 0 0 0 1
     ∷ row 2 0 tpacall 7 0 0 (pos 0) 1 0 0 0 1
     ∷ row 3 1 dispatch 0 0 0 (pos 0) 1 64 0 7 1
-    ∷ row 4 0 tpgetrply 1 0 0 (pos 32) 0 0 0 0 1
+    ∷ row 4 0 tpgetrply 1 0 0 (pos 36) 0 0 0 0 1
     ∷ row 4 0 txCommit 0 0 0 (negsuc 1) 0 0 0 0 0
     ∷ row 5 1 tpreturn 1 0 0 (pos 0) 8 0 0 0 0
     ∷ []

@@ -17,3 +17,4 @@ pub mod Marked
 pub mod Voted
 pub mod Rights
 pub mod Permitted
+pub mod Nothing

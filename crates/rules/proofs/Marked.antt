@@ -1,5 +1,6 @@
--- The drill cases that document 01 marks, in one table: each list of calls, run on a fresh monitor, ends as it says.
--- One test is computed over the whole table, and the law of tables turns it into the facts of each entry.
+-- The drill cases that the documents mark, in one table: each list of calls, run on a fresh monitor, ends as it says.
+-- One test is computed over the whole table, and the law of tables turns it into the facts of each entry. The other tables
+-- write their calls in the words that stand here.
 -- Assumes nothing.
 use mathlib.Core.Path.{_≡_, refl}
 use mathlib.Core.Bool.{Bool, true, _&&_}
@@ -39,18 +40,37 @@ pub record Example : Type 0 where
 abbrev pub call : ℕ → ℕ → ℕ → ℕ → ℕ → List ℕ
 call clock kind a b c = clock ∷ 0 ∷ kind ∷ a ∷ b ∷ c ∷ []
 
+-- one of party p's at 0: kind, a, b, c
+abbrev pub by : ℕ → ℕ → ℕ → ℕ → ℕ → List ℕ
+by p kind a b c = 0 ∷ p ∷ kind ∷ a ∷ b ∷ c ∷ []
+
+abbrev pub ends : List ℕ → ℤ → ℕ → Example
+ends cs code clock = record { calls = cs; code = code; clock = clock }
+
 abbrev pub opens : List ℕ
 opens = call 0 1 0 0 0
 
 abbrev pub advertises : ℕ → List ℕ
 advertises a = call 0 10 a 0 0
 
-abbrev pub sends : List ℕ
-sends = call 0 17 1 0 7
+-- party p sends on link 1
+abbrev pub sends : ℕ → List ℕ
+sends p = by p 17 1 0 7
 
--- timeout 10, begin at 5, commit
+-- party p requests service a
+abbrev pub requests : ℕ → ℕ → List ℕ
+requests p a = by p 12 a 0 7
+
+-- party 1 offers service 1
+abbrev pub offered1 : List ℕ → List ℕ
+offered1 cs = by 1 1 0 0 0 ++ by 1 10 1 0 0 ++ cs
+
+-- in a transaction with timeout 10 that begins at 5
+abbrev pub timed : List ℕ → List ℕ
+timed cs = opens ++ call 0 9 10 0 0 ++ call 5 3 0 0 0 ++ cs
+
 abbrev pub commitsAt : ℕ → List ℕ
-commitsAt clock = opens ++ call 0 9 10 0 0 ++ call 5 3 0 0 0 ++ call clock 4 0 0 0
+commitsAt clock = timed (call clock 4 0 0 0)
 
 -- "Fresh begin −5"
 abbrev pub freshBegin : Example
@@ -79,9 +99,9 @@ clockStays = record { calls = call 20 1 0 0 0 ++ call 3 1 0 0 0; code = pos 0; c
 abbrev pub cancelInTx : Example
 cancelInTx = record { calls = opens ++ advertises 1 ++ call 0 3 0 0 0 ++ call 0 12 1 0 7 ++ call 0 16 1 0 0; code = pos 27; clock = 0 }
 
--- "Fifth unread: 32."
+-- "the marked fifth unread is 37" (document 02)
 abbrev pub fifthUnread : Example
-fifthUnread = record { calls = advertises 1 ++ call 0 13 1 4 0 ++ sends ++ sends ++ sends ++ sends ++ sends; code = pos 32; clock = 0 }
+fifthUnread = record { calls = advertises 1 ++ call 0 13 1 4 0 ++ sends 0 ++ sends 0 ++ sends 0 ++ sends 0 ++ sends 0; code = pos 37; clock = 0 }
 
 -- "Ninth service: 26."
 abbrev pub ninthService : Example

@@ -7,28 +7,22 @@ use lib.IntN.{pos}
 use lib.ListN.{length, getD}
 use Rattle.rules.specs.Choice.{pick, same}
 use Rattle.rules.specs.Lists.{firstOf, anyOf, collect}
-use Rattle.rules.specs.Record.{blanks, numbered, owns, ownEnd, linkOf, changed, goneOf, removed}
+use Rattle.rules.specs.Record.{numbered, owns, ownEnd, linkOf, changed, goneOf, removed}
 use Rattle.rules.specs.Transaction.{servedTx, txOf, ended, expired, isOwner, deadlineOf, beginTx, orphaned, endOf, endTx}
 use Rattle.rules.specs.States.{stateOf, nextOf, inState, entered}
 use Rattle.rules.specs.Tx.{openOf, beginOf, goOn, rollbackOf, timeoutOf}
-use Rattle.rules.specs.Votes.{reportIs, allCanStart}
 use Rattle.rules.specs.Services.{inSet, offers, mayRequest, mayAdvertise, countTo, offered, withService, offersNow, advertiseOf, unadvertiseOf}
 use Rattle.rules.specs.Rights.{granted, rightsOf}
-use Rattle.rules.specs.Requests.{linkTx, askLink, requestOf, connectOf, isIdle, fits, dispatchEvent, dispatched, dispatchOf}
+use Rattle.rules.specs.Requests.{linkTx, askLink, requestOf, connectOf, isIdle, fits, dispatched, dispatchOf}
 use Rattle.rules.specs.Replies.{requestEnd, outcomeCode, fetched, fetchOne, fetchOf}
 use Rattle.rules.specs.Conversations.{originatorEnd, serverEnd, anyEnd, hearsDisconnect, hearsReturn, endSide, isSender, sendOn, sendOf}
 use Rattle.rules.specs.Return.{plainOutcome, outcomeOf, unreadAfter, closeEnd, rollbackOnlyBy, closeOwn, endOwn, rollbackOnlyServed}
-use Rattle.rules.specs.Return.{servesNone, endingOf, handBack, leave, returnWith, returnOf, diedOut, terminateOf}
-use Rattle.rules.specs.Sound.{reportsGood, linksGood, worksFor, partyGood, partiesGood, sound}
-use Rattle.rules.specs.Step.{ruleOf, laterOf, answeredTo, turnedDown, callOf}
+use Rattle.rules.specs.Return.{servesNone, handBack, leave, returnWith, returnOf, diedOut, terminateOf}
+use Rattle.rules.specs.Sound.{reportsGood, linksGood, partyGood, partiesGood, sound}
+use Rattle.rules.specs.Step.{ruleOf, laterOf, answeredTo, callOf}
 use Rattle.rules.specs.Run.{callAt, placesOf, ranOf, answersOf, listOf}
-use Rattle.rules.proofs.Marked.{Example, Holds, call, opens, advertises, freshBegin, right, holds-right}
-use Rattle.rules.proofs.Voted.{ends}
+use Rattle.rules.proofs.Marked.{Example, Holds, call, by, ends, opens, timed, advertises, requests, offered1, freshBegin, right, holds-right}
 use Rattle.rules.proofs.Tables.{every, entry}
-
--- a call of party p's at 0: kind, a, b, c
-abbrev by : ℕ → ℕ → ℕ → ℕ → ℕ → List ℕ
-by p kind a b c = 0 ∷ p ∷ kind ∷ a ∷ b ∷ c ∷ []
 
 -- party 0 replaces a set: by none, and by all
 abbrev sets : ℕ → ℕ → ℕ → List ℕ
@@ -39,14 +33,6 @@ withdraws a = sets a 0 0
 
 abbrev all32 : ℕ
 all32 = 4294967295
-
--- party p requests service a
-abbrev requests : ℕ → ℕ → List ℕ
-requests p a = by p 12 a 0 7
-
--- party 1 offers service 1
-abbrev offered1 : List ℕ → List ℕ
-offered1 cs = by 1 1 0 0 0 ++ by 1 10 1 0 0 ++ cs
 
 abbrev pub permitted : List Example
 permitted =
@@ -68,7 +54,7 @@ permitted =
     ∷ ends (withdraws 0 ++ by 0 13 1 4 7) (pos 35) 0
     ∷ ends (withdraws 0 ++ by 0 13 1 0 7) (pos 22) 0
     -- before 28
-    ∷ ends (opens ++ call 0 9 10 0 0 ++ call 5 3 0 0 0 ++ withdraws 0 ++ call 15 12 1 0 7) (pos 35) 15
+    ∷ ends (timed (withdraws 0 ++ call 15 12 1 0 7)) (pos 35) 15
     -- before 23: of a transaction that has ended
     ∷ ends (offered1 (opens ++ call 0 3 0 0 0 ++ requests 0 1 ++ by 1 14 0 0 0 ++ call 0 5 0 0 0 ++ withdraws 2 ++ requests 1 1)) (pos 35) 0
     ∷ ends (offered1 (opens ++ call 0 3 0 0 0 ++ requests 0 1 ++ by 1 14 0 0 0 ++ call 0 5 0 0 0 ++ requests 1 1)) (pos 23) 0
@@ -118,11 +104,11 @@ permitted =
     ∷ []
 
 pub permitted-holds : (k : ℕ) → k < length permitted → Holds (getD permitted k freshBegin)
-unfolding every right pick same firstOf anyOf collect blanks numbered owns ownEnd linkOf changed goneOf removed servedTx txOf ended expired isOwner
-    deadlineOf beginTx orphaned endOf endTx stateOf nextOf inState entered openOf beginOf goOn rollbackOf timeoutOf reportIs allCanStart inSet offers
-    mayRequest mayAdvertise countTo offered withService offersNow advertiseOf unadvertiseOf granted rightsOf linkTx askLink requestOf connectOf isIdle
-    fits dispatchEvent dispatched dispatchOf requestEnd outcomeCode fetched fetchOne fetchOf originatorEnd serverEnd anyEnd hearsDisconnect hearsReturn
-    endSide isSender sendOn sendOf plainOutcome outcomeOf unreadAfter closeEnd rollbackOnlyBy closeOwn endOwn rollbackOnlyServed servesNone endingOf
-    handBack leave returnWith returnOf diedOut terminateOf reportsGood linksGood worksFor partyGood
-    partiesGood sound ruleOf laterOf answeredTo turnedDown callOf callAt placesOf ranOf answersOf listOf
+unfolding every right pick same firstOf anyOf collect numbered owns ownEnd linkOf changed goneOf removed servedTx txOf ended expired isOwner
+    deadlineOf beginTx orphaned endOf endTx stateOf nextOf inState entered openOf beginOf goOn rollbackOf timeoutOf inSet offers mayRequest
+    mayAdvertise countTo offered withService offersNow advertiseOf unadvertiseOf granted rightsOf linkTx askLink requestOf connectOf isIdle fits
+    dispatched dispatchOf requestEnd outcomeCode fetched fetchOne fetchOf originatorEnd serverEnd anyEnd hearsDisconnect hearsReturn endSide isSender
+    sendOn sendOf plainOutcome outcomeOf unreadAfter closeEnd rollbackOnlyBy closeOwn endOwn rollbackOnlyServed servesNone handBack leave returnWith
+    returnOf diedOut terminateOf reportsGood linksGood partyGood partiesGood sound ruleOf laterOf answeredTo callOf callAt placesOf ranOf answersOf
+    listOf
 permitted-holds k h = holds-right (getD permitted k freshBegin) (entry right freshBegin permitted refl k h)

@@ -3,7 +3,7 @@
 use mathlib.Core.Path.{refl}
 use mathlib.Core.List.{List, [], _∷_, _++_}
 use Prim.Native.Nat.{ℕ, _<_}
-use lib.IntN.{ℤ, pos, negsuc}
+use lib.IntN.{pos, negsuc}
 use lib.ListN.{length, getD}
 use Rattle.rules.specs.Choice.{pick, same}
 use Rattle.rules.specs.Codes.{noBegin}
@@ -16,7 +16,7 @@ use Rattle.rules.specs.Votes.{reportNumber, reportIs, reportOf, decides,
 use Rattle.rules.specs.Sound.{reportsGood, linksGood, partyGood, partiesGood, sound}
 use Rattle.rules.specs.Step.{ruleOf, laterOf, answeredTo, turnedDown, callOf}
 use Rattle.rules.specs.Run.{callAt, placesOf, ranOf, answersOf, listOf}
-use Rattle.rules.proofs.Marked.{Example, Holds, call, opens, freshBegin, right, holds-right}
+use Rattle.rules.proofs.Marked.{Example, Holds, call, ends, opens, timed, freshBegin, right, holds-right}
 use Rattle.rules.proofs.Tables.{every, entry}
 
 -- manager a's report
@@ -26,18 +26,12 @@ votes a b c = call 0 22 a b c
 abbrev pub commits : List ℕ
 commits = call 0 4 0 0 0
 
--- in a transaction: unchained, chained, and with timeout 10 begun at 5
+-- in a transaction: unchained, and chained
 abbrev pub inTx : List ℕ → List ℕ
 inTx cs = opens ++ call 0 3 0 0 0 ++ cs
 
 abbrev pub chained : List ℕ → List ℕ
 chained cs = opens ++ call 0 8 1 0 0 ++ call 0 3 0 0 0 ++ cs
-
-abbrev pub late : List ℕ → List ℕ
-late cs = opens ++ call 0 9 10 0 0 ++ call 5 3 0 0 0 ++ cs
-
-abbrev pub ends : List ℕ → ℤ → ℕ → Example
-ends cs code clock = record { calls = cs; code = code; clock = clock }
 
 abbrev pub voted : List Example
 voted =
@@ -70,15 +64,15 @@ voted =
     -- beside one that is rolled back
     ∷ ends (inTx (votes 0 6 0 ++ votes 1 4 0 ++ commits)) (negsuc 3) 0
     -- and after a rollback decision
-    ∷ ends (late (votes 0 6 0 ++ call 15 4 0 0 0)) (negsuc 3) 15
+    ∷ ends (timed (votes 0 6 0 ++ call 15 4 0 0 0)) (negsuc 3) 15
     -- beside one that is committed
-    ∷ ends (late (votes 0 6 0 ++ votes 1 3 0 ++ call 15 4 0 0 0)) (negsuc 3) 15
+    ∷ ends (timed (votes 0 6 0 ++ votes 1 3 0 ++ call 15 4 0 0 0)) (negsuc 3) 15
     -- all rolled back, after a commit decision
     ∷ ends (inTx (votes 0 4 0 ++ commits)) (negsuc 1) 0
     -- committed, after a rollback decision
-    ∷ ends (late (votes 0 3 0 ++ call 15 4 0 0 0)) (negsuc 8) 15
+    ∷ ends (timed (votes 0 3 0 ++ call 15 4 0 0 0)) (negsuc 8) 15
     -- committed and prepared, after a rollback decision
-    ∷ ends (late (votes 0 3 0 ++ votes 1 0 0 ++ call 15 4 0 0 0)) (negsuc 2) 15
+    ∷ ends (timed (votes 0 3 0 ++ votes 1 0 0 ++ call 15 4 0 0 0)) (negsuc 2) 15
     -- no transaction: 23, before 34
     ∷ ends (opens ++ votes 9 9 9) (pos 23) 0
     ∷ ends (opens ++ votes 0 2 0) (pos 23) 0

@@ -101,18 +101,9 @@ inTransaction = pos 27
 abbrev pub timedOut : ℤ
 timedOut = pos 28
 
--- 32, by the four places that answer it
+-- "Keep it for an empty take" (document 02)
 abbrev pub nothingWaiting : ℤ
 nothingWaiting = pos 32
-
-abbrev pub noReplyYet : ℤ
-noReplyYet = pos 32
-
-abbrev pub nothingUnread : ℤ
-nothingUnread = pos 32
-
-abbrev pub unreadFull : ℤ
-unreadFull = pos 32
 
 -- ---- refusal of a reader of OSI TP's primitives
 abbrev pub noSuchSequence : ℤ
@@ -125,6 +116,16 @@ badReport = pos 34
 -- ---- refusal of a party without the right to call it
 abbrev pub notPermitted : ℤ
 notPermitted = pos 35
+
+-- ---- refusals where nothing is there yet, by the two kinds that answer 36, and where four are unread
+abbrev pub noReplyYet : ℤ
+noReplyYet = pos 36
+
+abbrev pub nothingUnread : ℤ
+nothingUnread = pos 36
+
+abbrev pub unreadFull : ℤ
+unreadFull = pos 37
 
 -- ---- accepted by the XATMI kinds
 abbrev pub tpAccepted : ℤ

@@ -1,7 +1,8 @@
--- Which answers are refusals, and what a refused call leaves.
+-- Which answers are refusals, what a refused call leaves, and which kinds say that nothing is there.
 -- Assumes nothing.
 use mathlib.Core.Path.{_≡_}
-use mathlib.Core.Bool.{Bool, false, _&&_, _||_}
+use mathlib.Core.Bool.{Bool, true, false, _&&_, _||_}
+use Prim.Native.Nat.{ℕ}
 use lib.Dec.{eqb, leb}
 use lib.IntN.{ℤ, pos, negsuc}
 use Rattle.rules.specs.Choice.{pick}
@@ -25,6 +26,13 @@ isEarly (negsuc n) = false
 unfoldable pub isOutcome : ℤ → Bool
 isOutcome (pos n) = leb n 1 || (leb 29 n && leb n 31)
 isOutcome (negsuc n) = eqb n 1 || (eqb n 2 || (eqb n 3 || (eqb n 8 || (eqb n 99 || (eqb n 101 || (eqb n 102 || (eqb n 103 || eqb n 108)))))))
+
+-- The code of a call of kind k: "Keep it for an empty take. A fetch with no return yet and a receive with nothing unread get a
+-- second number, a send on a full link a third." (document 02)
+pub record NothingOf (k : ℕ) (code : ℤ) : Type 0 where
+  pub taking : code ≡ pos 32 → k ≡ 14
+  pub fetchingOrReceiving : code ≡ pos 36 → eqb k 15 || eqb k 18 ≡ true
+  pub sending : code ≡ pos 37 → k ≡ 17
 
 -- The call c on the record m was refused with s: beside its number and the caller's T all is 0, and the record is as it was
 -- but for the clock. At 19, 20 and 21 "the last field is 0 and the record is unchanged".

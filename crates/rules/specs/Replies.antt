@@ -27,7 +27,7 @@ outcomeCode o = pick (eqb o tpevSvcSucc) tpAccepted (pick (eqb o tpevSvcFail) tp
 unfoldable pub fetched : Monitor → ℕ → Link → ℕ → Ruled
 fetched m a l v = record { monitor = removed m a; code = outcomeCode (l .outcome); value = v; event = 0; token = l .ending; service = 0 }
 
--- fetch a: an open request end of the caller's? 24. Not expired? 28. Returned? 32
+-- fetch a: an open request end of the caller's? 24. Not expired? 28. Returned? 36
 unfoldable pub fetchOne : Monitor → ℕ → ℕ → Ruled
 fetchOne m p a =
     ask m (requestEnd p (linkOf m a)) noSuchEnd
@@ -52,7 +52,7 @@ abbrev pub fetchedAny : Monitor → Link → Ruled
 fetchedAny m l = fetched m (l .number) l (l .number)
 
 -- fetch whichever reply is there: "has the caller an open request end? 24. Are the transactions of all requests with such
--- an end unexpired? 28. Is one of them returned? 32."
+-- an end unexpired? 28. Is one of them returned?" 36
 unfoldable pub fetchAny : Monitor → ℕ → Ruled
 fetchAny m p =
     ask m (anyOf (requestEnd p) (live m)) noSuchEnd

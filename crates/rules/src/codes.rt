@@ -61,14 +61,8 @@ pub const NO_ROOM_LEFT: i64 = 26;
 pub const IN_TRANSACTION: i64 = 27;
 
 pub const TIMED_OUT: i64 = 28;
-// 32, by the four places that answer it
+
 pub const NOTHING_WAITING: i64 = 32;
-
-pub const NO_REPLY_YET: i64 = 32;
-
-pub const NOTHING_UNREAD: i64 = 32;
-
-pub const UNREAD_FULL: i64 = 32;
 
 // ---- refusal of a reader of OSI TP's primitives
 pub const NO_SUCH_SEQUENCE: i64 = 33;
@@ -78,6 +72,13 @@ pub const BAD_REPORT: i64 = 34;
 
 // ---- refusal of a party without the right
 pub const NOT_PERMITTED: i64 = 35;
+
+// ---- refusals where nothing is there yet, by the two kinds that answer 36, and where four are unread
+pub const NO_REPLY_YET: i64 = 36;
+
+pub const NOTHING_UNREAD: i64 = 36;
+
+pub const UNREAD_FULL: i64 = 37;
 
 // ---- accepted by the XATMI kinds
 pub const TP_ACCEPTED: i64 = 0;
