@@ -34,6 +34,7 @@ faults! {
     FailedReturnMarksNothing,
     FallResetsRights,
     FetchLeavesLink,
+    FetchSaysEmptyTake,
     FirstReportStands,
     HalvesExchanged,
     HazardIsGood,
@@ -45,6 +46,7 @@ faults! {
     RightAfterOffered,
     RollbackOnlyLeavesNoMark,
     RolledBackCommits,
+    SendSaysNothingThere,
     SomeCantStart,
     SuccessWithOpenEnds,
     TakeAsksRight,
@@ -242,14 +244,16 @@ mod tests {
     }
 
     /// No list shows these to the statement; an answer tells each.
-    const NO_HISTORY: [Fault; 10] = [
+    const NO_HISTORY: [Fault; 12] = [
         Fault::AnyoneSetsRights,
         Fault::CantStartStarts,
         Fault::FallResetsRights,
+        Fault::FetchSaysEmptyTake,
         Fault::HalvesExchanged,
         Fault::NonOwnerCommits,
         Fault::PartyByRemainder,
         Fault::RightAfterOffered,
+        Fault::SendSaysNothingThere,
         Fault::SomeCantStart,
         Fault::TakeAsksRight,
         Fault::VetoDecidesNothing,
@@ -320,5 +324,9 @@ mod tests {
         assert_eq!(told, (58, 12, 35, 25));
         let told = first_told("case-84", Fault::TakeAsksRight);
         assert_eq!(told, (23, 14, 0, 32));
+        let told = first_told("case-92", Fault::FetchSaysEmptyTake);
+        assert_eq!(told, (22, 15, 36, 32));
+        let told = first_told("case-93", Fault::SendSaysNothingThere);
+        assert_eq!(told, (23, 17, 37, 36));
     }
 }

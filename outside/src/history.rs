@@ -22,6 +22,8 @@ pub enum Broken {
     /// A call answered as if it had a right that it lacked, or the other way
     /// round.
     Rights { at: usize },
+    /// 32, 36 or 37 where something was there, or the other way round.
+    Nothing { at: usize },
 }
 
 fn party(entry: &Entry) -> u32 {
@@ -542,7 +544,7 @@ mod tests {
         let h = any_replies();
         let on: Vec<_> = [8, 9, 12].map(|at| link(&h[at])).into();
         assert_eq!(on, [Some(1), Some(2), Some(2)]);
-        assert_eq!(code(&h[9]), 32);
+        assert_eq!(code(&h[9]), 36);
         assert_eq!(link(&([0, 0, 15, 7, 1, 0], [30, 4, 0, 0, 0, 0])), Some(4));
         assert_eq!(link(&([0, 0, 15, 7, 1, 0], [31, 4, 0, 0, 0, 0])), Some(4));
         assert_eq!(link(&([0, 0, 15, 7, 1, 0], [24, 0, 0, 0, 0, 0])), Some(7));

@@ -284,8 +284,8 @@ pub const KINDS: &[Row] = {
             arguments: [Link, AnyReply, Nothing],
             tried: Tried::Request,
             weights: &[(Unfit, 2), (Fit, 40)],
-            codes: &[0, 22, 24, 28, 30, 31, 32],
-            any_codes: &[0, 24, 28, 30, 31, 32],
+            codes: &[0, 22, 24, 28, 30, 31, 36],
+            any_codes: &[0, 24, 28, 30, 31, 36],
             ..PLAIN
         },
         Row {
@@ -304,7 +304,7 @@ pub const KINDS: &[Row] = {
             tried: Tried::Conversation,
             weights: &[(Unfit, 2), (News, 5), (Fit, 10), (More, 3)],
             moods: &[(Talk, Fit, 30), (Talk, More, 9)],
-            codes: &[0, 22, 23, 24, 28, 32],
+            codes: &[0, 22, 23, 24, 28, 37],
             events: &[(29, 1), (29, 2), (29, 4)],
             ..PLAIN
         },
@@ -315,7 +315,7 @@ pub const KINDS: &[Row] = {
             tried: Tried::Conversation,
             weights: &[(Unfit, 2), (News, 14), (Fit, 14)],
             moods: &[(Talk, News, 42), (Talk, Fit, 42)],
-            codes: &[0, 23, 24, 28, 32],
+            codes: &[0, 23, 24, 28, 36],
             events: &[(29, 1), (29, 2), (29, 4), (29, 8), (29, 32)],
             ..PLAIN
         },

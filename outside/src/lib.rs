@@ -10,6 +10,7 @@ pub mod lent;
 #[cfg(feature = "timing")]
 pub mod lent_wire;
 pub mod monitor;
+pub mod nothing;
 pub mod number;
 pub mod wire;
 pub mod words;

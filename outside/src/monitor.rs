@@ -326,6 +326,14 @@ fn ask(yes: bool, number: i64) -> Result<(), i64> {
     }
 }
 
+/// The number of a fetch of either form with no return yet.
+fn no_return_yet() -> i64 {
+    match is_on(Fault::FetchSaysEmptyTake) {
+        true => 32,
+        false => 36,
+    }
+}
+
 /// A blank of the state table.
 const NONE: u8 = u8::MAX;
 
@@ -789,7 +797,7 @@ impl Monitor {
         if is_on(Fault::EarlyFetchRemovesLink) && link.state != State::Returned {
             self.remove_link(i);
         }
-        ask(link.state == State::Returned, 32)?;
+        ask(link.state == State::Returned, no_return_yet())?;
         Ok(i)
     }
 
@@ -802,7 +810,7 @@ impl Monitor {
         self.links()
             .iter()
             .position(|link| is_own(link) && link.state == State::Returned)
-            .ok_or(32)
+            .ok_or(no_return_yet())
     }
 
     fn fetch(&mut self, p: usize, a: u32, b: u32) -> Decision {
@@ -898,7 +906,11 @@ impl Monitor {
         let link = &mut self.links[i];
         let early = is_on(Fault::NewEndSendsEarly) && (link.holder == end || link.handing_over);
         ask(early || (link.holder == end && !link.handing_over), 23)?;
-        ask(usize::from(link.unread_count) < UNREAD, 32)?;
+        let four_unread = match is_on(Fault::SendSaysNothingThere) {
+            true => 36,
+            false => 37,
+        };
+        ask(usize::from(link.unread_count) < UNREAD, four_unread)?;
         link.push_unread(c);
         if b == 1 || early {
             link.handing_over = b == 1;
@@ -914,7 +926,7 @@ impl Monitor {
         }
         let link = &mut self.links[i];
         ask(link.holder != end, 23)?;
-        ask(link.unread_count > 0, 32)?;
+        ask(link.unread_count > 0, 36)?;
         let token = link.pop_unread();
         if link.unread_count == 0 && link.handing_over {
             link.holder = end;
@@ -1236,7 +1248,7 @@ mod tests {
             send,
             send,
         ];
-        assert_eq!(codes(&mut m, &calls), [0, 0, 0, 0, 0, 0, 32]);
+        assert_eq!(codes(&mut m, &calls), [0, 0, 0, 0, 0, 0, 37]);
         // Ninth service.
         let mut m = Monitor::fresh();
         let calls: Vec<_> = (1..=9).map(|s| [0, 0, 10, s * 7, 0, 0]).collect();
@@ -1318,7 +1330,7 @@ mod tests {
             ([0, 0, 3, 0, 0, 0], [0, 0, 0, 0, 0, 1]),
             ([0, 0, 12, 5, 1, 7], [22, 0, 0, 0, 0, 1]),
             ([0, 0, 12, 5, 0, 7], [0, 1, 0, 0, 0, 1]),
-            ([0, 0, 15, 1, 0, 0], [32, 0, 0, 0, 0, 1]),
+            ([0, 0, 15, 1, 0, 0], [36, 0, 0, 0, 0, 1]),
             ([0, 1, 14, 0, 0, 0], [0, 1, 64, 7, 5, 1]),
             ([0, 1, 4, 0, 0, 0], [-5, 0, 0, 0, 0, 1]),
             ([0, 1, 20, 3, 0, 9], [22, 0, 0, 0, 0, 1]),
@@ -1328,6 +1340,122 @@ mod tests {
             ([0, 0, 6, 0, 0, 0], [1, 0, 0, 0, 0, 2]),
             ([0, 0, 4, 0, 0, 0], [0, 0, 0, 0, 0, 3]),
         ]);
+    }
+
+    /// Nothing there, three ways: no link to take is 32, no reply and
+    /// nothing unread 36, four unread 37. Each has zeros beside it and the
+    /// caller's T, and changes nothing but the clock.
+    #[test]
+    fn nothing_there() {
+        let mut m = Monitor::fresh();
+        let calls = [
+            [0, 0, 1, 0, 0, 0],
+            [0, 1, 1, 0, 0, 0],
+            [0, 2, 1, 0, 0, 0],
+            [0, 1, 10, 5, 0, 0],
+            [0, 0, 9, 10, 0, 0],
+            [5, 0, 3, 0, 0, 0],
+            [5, 0, 12, 5, 0, 7],
+            [5, 0, 13, 5, 8, 7],
+            [5, 0, 13, 5, 4, 7],
+            [5, 0, 17, 3, 0, 1],
+            [5, 0, 17, 3, 0, 0],
+            [5, 0, 17, 3, 0, 3],
+            [5, 0, 17, 3, 0, 4],
+        ];
+        assert_eq!(codes(&mut m, &calls), [0; 13]);
+        let ways = [
+            ([2, 14, 0, 0, 0], 32, 0),
+            ([0, 15, 1, 0, 0], 36, 1),
+            ([0, 15, 0, 1, 0], 36, 1),
+            ([0, 18, 2, 0, 0], 36, 1),
+            ([0, 17, 3, 0, 5], 37, 1),
+            ([0, 17, 3, 1, 5], 37, 1),
+        ];
+        for ([p, kind, a, b, c], code, t) in ways {
+            let mut after = m.clone();
+            assert_eq!(
+                step(&mut after, [9, p, kind, a, b, c]),
+                [code, 0, 0, 0, 0, t]
+            );
+            let mut expected = m.clone();
+            expected.clock = 9;
+            assert!(equal_with_tokens(&after, &expected));
+            // At the deadline 28 is asked first; a take asks of no transaction.
+            let late = if kind == 14 { 32 } else { 28 };
+            assert_eq!(step(&mut m.clone(), [15, p, kind, a, b, c])[0], late);
+        }
+        // The other questions that come before.
+        for ([p, kind, a, b], code) in [
+            ([0, 14, 0, 0], 23),
+            ([3, 14, 0, 0], 23),
+            ([0, 15, 1, 2], 22),
+            ([1, 15, 1, 0], 24),
+            ([1, 15, 1, 1], 24),
+            ([0, 18, 3, 0], 23),
+            ([1, 18, 3, 0], 24),
+            ([1, 17, 3, 0], 24),
+            ([0, 17, 3, 2], 22),
+            ([0, 17, 2, 0], 23),
+        ] {
+            let found = step(&mut m.clone(), [9, p, kind, a, b, 0])[0];
+            assert_eq!(found, code, "{p} {kind} {a} {b}");
+        }
+    }
+
+    /// 36 and 37 at each end, until a token comes or is read.
+    #[test]
+    fn nothing_at_each_end() {
+        let mut calls = vec![
+            ([0, 1, 1, 0, 0, 0], [0, 0, 0, 0, 0, 0]),
+            ([0, 1, 10, 5, 0, 0], [0, 1, 0, 0, 0, 0]),
+            ([0, 0, 13, 5, 8, 7], [0, 1, 0, 0, 0, 0]),
+            ([0, 0, 18, 1, 0, 0], [36, 0, 0, 0, 0, 0]),
+            ([0, 1, 14, 0, 0, 0], [0, 1, 66, 7, 5, 0]),
+        ];
+        for (sender, receiver) in [(1, 0), (0, 1), (1, 0)] {
+            let send = |b, c, code| ([0, sender, 17, 1, b, c], [code, 0, 0, 0, 0, 0]);
+            let receive = |c| ([0, receiver, 18, 1, 0, 0], [0, 0, 0, c, 0, 0]);
+            let nothing = ([0, receiver, 18, 1, 0, 0], [36, 0, 0, 0, 0, 0]);
+            calls.push(nothing);
+            calls.extend([4, 0, 5, 6].map(|c| send(0, c, 0)));
+            calls.extend([send(0, 8, 37), send(1, 8, 37), receive(4)]);
+            calls.extend([send(0, 9, 0), send(0, 8, 37)]);
+            calls.extend([0, 5, 6, 9].map(|c| receive(i64::from(c))));
+            calls.extend([nothing, send(1, 3, 0)]);
+            calls.push(([0, receiver, 18, 1, 0, 0], [29, 0, 32, 3, 0, 0]));
+        }
+        drill(&calls);
+    }
+
+    /// Four unread beside a cut or a return, which no list leaves: a cut is told
+    /// first; a return is told only where nothing is unread.
+    #[test]
+    fn four_unread_beside_news() {
+        let mut m = Monitor::fresh();
+        let calls = [
+            [0, 1, 1, 0, 0, 0],
+            [0, 1, 10, 5, 0, 0],
+            [0, 0, 13, 5, 8, 7],
+            [0, 1, 14, 0, 0, 0],
+        ];
+        assert_eq!(codes(&mut m, &calls), [0; 4]);
+        m.links[0].unread_count = 4;
+        let mut cut = m.clone();
+        cut.links[0].cut = Cut::Cut;
+        assert_eq!(step(&mut m.clone(), [0, 1, 17, 1, 0, 9])[0], 37);
+        assert_eq!(step(&mut cut, [0, 1, 17, 1, 0, 9]), [29, 0, 1, 0, 0, 0]);
+        m.parties[1].served = 0;
+        m.links[0].state = State::Returned;
+        m.links[0].holder = End::Originator;
+        for outcome in [SUCCESS, FAIL, ERROR] {
+            m.links[0].outcome = outcome;
+            assert_eq!(step(&mut m.clone(), [0, 0, 17, 1, 0, 9])[0], 37);
+            let mut read = m.clone();
+            read.links[0].unread_count = 0;
+            let code = if outcome == SUCCESS { 0 } else { 29 };
+            assert_eq!(step(&mut read, [0, 0, 17, 1, 0, 9])[0], code);
+        }
     }
 
     /// Requests 1 to 3 of party 0 for service 5, no transaction; parties 1 and 2
@@ -1354,10 +1482,10 @@ mod tests {
     fn any_reply() {
         let mut m = two_served();
         let script = [
-            ([0, 0, 15, 2, 1, 0], [32, 0, 0, 0, 0, 0]),
+            ([0, 0, 15, 2, 1, 0], [36, 0, 0, 0, 0, 0]),
             ([0, 2, 20, 1, 0, 9], [0, 8, 0, 0, 0, 0]),
             ([0, 0, 15, 1, 1, 0], [0, 2, 0, 9, 0, 0]),
-            ([0, 0, 15, 2, 1, 0], [32, 0, 0, 0, 0, 0]),
+            ([0, 0, 15, 2, 1, 0], [36, 0, 0, 0, 0, 0]),
             ([0, 2, 14, 0, 0, 0], [0, 3, 64, 7, 5, 0]),
             ([0, 2, 21, 0, 0, 0], [0, 2, 0, 0, 0, 0]),
             ([0, 1, 20, 2, 0, 8], [0, 4, 0, 0, 0, 0]),
@@ -1401,7 +1529,7 @@ mod tests {
         ];
         assert_eq!(codes(&mut m, &calls), [0; 7]);
         assert_eq!(step(&mut m, [0, 0, 15, 1, 1, 0])[0], 24);
-        assert_eq!(step(&mut m, [0, 3, 15, 1, 1, 0])[0], 32);
+        assert_eq!(step(&mut m, [0, 3, 15, 1, 1, 0])[0], 36);
     }
 
     /// An expired transaction of one request stands in the way of all; an ended
@@ -1428,7 +1556,7 @@ mod tests {
         assert_eq!(step(&mut m, [15, 0, 15, 1, 0, 0])[0], 0);
         // Nothing is returned any more, but 28 is asked first.
         assert_eq!(step(&mut m, [15, 0, 15, 2, 1, 0])[0], 28);
-        assert_eq!(step(&mut m, [15, 0, 15, 2, 0, 0])[0], 32);
+        assert_eq!(step(&mut m, [15, 0, 15, 2, 0, 0])[0], 36);
     }
 
     /// An expired conversation of the caller's does not stand in the way.

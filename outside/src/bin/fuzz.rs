@@ -7,8 +7,9 @@
 //! the most severe of what its managers' reports give two by two; what a right
 //! forbids is 35 and the rest is as with all rights; a list does what its calls
 //! do; a drill file is read as written; and the same on records no list reaches,
-//! made by changing fields at random. Of a history, its rights are also read off
-//! the calls and answers alone.
+//! made by changing fields at random. Of a history, its rights, and whether
+//! something was there to take, fetch, receive or have room for, are also read
+//! off the calls and answers alone.
 
 use outside::drill;
 use outside::generator::{self, Generator, Rng};
@@ -17,6 +18,7 @@ use outside::monitor::{
     equal, equal_with_tokens, run_list, step, Cut, End, Kind, Link, Monitor, Party, State,
     ALL_SERVICES, LAST_NUMBER, LINKS, MANAGERS, PARTIES,
 };
+use outside::nothing;
 use std::process::ExitCode;
 
 /// What came, to see that deep states did.
@@ -54,6 +56,11 @@ struct Tally {
     taken_without_right: u64,
     /// Falls of parties that lack a right.
     fell_lacking: u64,
+    empty_takes: u64,
+    /// By number, and of any reply.
+    fetches_of_nothing: [u64; 2],
+    receives_of_nothing: u64,
+    sends_on_full_links: u64,
     sound_changed_records: u64,
     unsound_records: u64,
 }
@@ -366,11 +373,11 @@ fn check_any_fetch(
         .filter(|(_, answer, _)| answer[0] != 24)
         .collect();
     let came = |code| by_number.iter().any(|(_, answer, _)| answer[0] == code);
-    let reply = by_number.iter().find(|(_, answer, _)| answer[0] != 32);
+    let reply = by_number.iter().find(|(_, answer, _)| answer[0] != 36);
     let good = match (answer[0], reply) {
         (24, _) => by_number.is_empty(),
         (28, _) => came(28),
-        (32, None) => !by_number.is_empty(),
+        (36, None) => !by_number.is_empty(),
         (_, Some((number, same, m))) => {
             let [code, _, event, token, service, t] = *same;
             !came(28)
@@ -485,6 +492,17 @@ fn tally_rights(before: &Monitor, call: [u32; 6], answer: [i64; 6], tally: &mut 
     }
 }
 
+/// Adds to the tally what came with nothing there.
+fn tally_nothing(call: [u32; 6], answer: [i64; 6], tally: &mut Tally) {
+    match (call[2], answer[0]) {
+        (14, 32) => tally.empty_takes += 1,
+        (15, 36) => tally.fetches_of_nothing[usize::from(call[4] == 1)] += 1,
+        (18, 36) => tally.receives_of_nothing += 1,
+        (17, 37) => tally.sends_on_full_links += 1,
+        _ => {}
+    }
+}
+
 /// The transaction that the party's latest answer past question 21 ends in.
 fn last_answer(entries: &[Entry], party: u32) -> i64 {
     let mut own = entries.iter().rev();
@@ -526,6 +544,9 @@ fn check_history(
         return Err(format!("history: {broken:?} in {entries:?}"));
     }
     if let Some(broken) = history::check_rights(entries) {
+        return Err(format!("history: {broken:?} in {entries:?}"));
+    }
+    if let Some(broken) = nothing::check_nothing(entries) {
         return Err(format!("history: {broken:?} in {entries:?}"));
     }
     // The same calls as lent lists, cut anywhere, and as a drill file.
@@ -736,6 +757,7 @@ fn fuzz(seed: u64, count: u64, tally: &mut Tally) -> Result<(), String> {
             let answer = step(&mut m, call);
             check_step(&before, &m, call, answer)?;
             tally_rights(&before, call, answer, tally);
+            tally_nothing(call, answer, tally);
             entries.push((call, answer));
             tally.deepest_nesting = tally.deepest_nesting.max(nesting(&m));
             tally.full_links += u64::from(m.link_count == LINKS);
