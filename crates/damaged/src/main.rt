@@ -18,5 +18,5 @@ fn main() {
     parties::sound();
     show::lists();
     show::commits();
-    show::replies();
+    show::answers();
 }

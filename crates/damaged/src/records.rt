@@ -129,6 +129,18 @@ pub fn stray_reply() -> Monitor {
     m
 }
 
+// Party 1 serves a conversation that is disconnected, with four tokens of its own unread.
+pub fn stray_unread() -> Monitor {
+    let mut m = base();
+    let mut l = working();
+    l.attached = 0;
+    l.disconnected = 1;
+    l.sender = 1;
+    l.filled = 4;
+    m.links[1] = l;
+    m
+}
+
 // 32 waiting links, numbered 1 to 32.
 pub fn full() -> Monitor {
     let mut m = base();

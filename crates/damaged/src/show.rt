@@ -4,6 +4,7 @@ use super::records::base;
 use super::records::stray_reply;
 use super::records::stray_request;
 use super::records::stray_service;
+use super::records::stray_unread;
 use super::stored::stored;
 use libc::STDOUT_FILENO;
 use monitor::Store;
@@ -28,6 +29,7 @@ fn show_code(code: i64) {
         17 => write(b"17"),
         19 => write(b"19"),
         20 => write(b"20"),
+        29 => write(b"29"),
         77 => write(b"77"),
         _ => write(b"another"),
     }
@@ -162,21 +164,42 @@ pub fn commits() {
     );
 }
 
-// A sound record that no list of calls leads to: the end of a transaction leaves no open request end.
-pub fn replies() {
-    let record = stray_reply();
+// A party's call on a record.
+fn show_answer(name: &[u8], record: Monitor, party: u32, kind: u32, a: u32, b: u32) {
     let m = stored(record);
-    let fetch = Call {
+    let call = Call {
         clock: 7,
-        party: 2,
-        kind: 15,
-        a: 0,
-        b: 1,
+        party,
+        kind,
+        a,
+        b,
         c: 0,
     };
-    let s = monitor::step(m, fetch);
+    let s = monitor::step(m, call);
     let r = s.answer;
-    write(b"a returned request of a transaction that has ended: whichever reply is there ");
+    write(name);
     show_code(r.code);
     write(b"\n");
+}
+
+// Sound records that no list of calls leads to: the end of a transaction leaves no open request end, and a disconnect nothing unread.
+pub fn answers() {
+    let reply = stray_reply();
+    show_answer(
+        b"a returned request of a transaction that has ended: whichever reply is there ",
+        reply,
+        2,
+        15,
+        0,
+        1,
+    );
+    let unread = stray_unread();
+    show_answer(
+        b"a conversation that is disconnected, with four tokens of its server's unread: its server sends ",
+        unread,
+        1,
+        17,
+        4,
+        0,
+    );
 }
