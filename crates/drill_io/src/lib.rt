@@ -8,7 +8,7 @@ use listing::Turned;
 use monitor::Store;
 
 // What waits in the input's buffer: how many bytes, whether the input ended there, and whether it could be read.
-#[derive(Drop)]
+#[derive(Clone, Copy)]
 pub struct Waiting {
     pub count: usize,
     pub ended: bool,
@@ -58,7 +58,7 @@ pub fn receive(fd: i32, input: &mut [u8], count: usize, ended: bool) -> Waiting
 }
 
 // Between two turns: the record, what waits, and whether to go on.
-#[derive(Drop)]
+#[derive(Clone, Copy)]
 pub struct State {
     pub store: Store,
     pub count: usize,

@@ -9,7 +9,7 @@ use rules::codes;
 
 // What a piece gives: the record after its calls, how many of its bytes those took, how many bytes of text they made, and the code that ended it:
 // 0 where it may go on, 16 where the text's buffer is too short, else the refusal.
-#[derive(Drop)]
+#[derive(Clone, Copy)]
 pub struct Listed {
     pub store: Store,
     pub used: usize,

@@ -51,7 +51,7 @@ fn is_over(ended: bool, code: i64, left: usize) -> bool
 
 // What a turn gives: the record after it, how many bytes are kept at the front of the input's buffer, how many bytes of text there are, and whether the
 // file is over.
-#[derive(Drop)]
+#[derive(Clone, Copy)]
 pub struct Turned {
     pub store: Store,
     pub kept: usize,

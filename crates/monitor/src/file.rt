@@ -13,7 +13,7 @@ use number::{Decoded, Encoded};
 use rules::{Call, codes};
 
 // What stands at a place of a drill file.
-#[derive(Drop)]
+#[derive(Clone, Copy)]
 pub enum Found {
     // a whole call, and the place after it
     Whole(Call, usize),
@@ -66,7 +66,7 @@ pub fn read_call(input: &[u8], place: usize) -> Found
 
 // What a drill file tells, beside its answers and the record: its code, how many calls were run, and the place after them.
 #[repr(C)]
-#[derive(Drop)]
+#[derive(Clone, Copy)]
 pub struct Passed {
     pub code: i64,
     pub calls: usize,
@@ -74,7 +74,7 @@ pub struct Passed {
 }
 
 // The same, with the record after its calls.
-#[derive(Drop)]
+#[derive(Clone, Copy)]
 pub struct FileRan {
     pub store: Store,
     pub code: i64,
@@ -231,7 +231,7 @@ pub fn run_file(mut m: Store, input: &[u8], answers: &mut [i64]) -> FileRan
 }
 
 // What writing a file tells.
-#[derive(Drop)]
+#[derive(Clone, Copy)]
 pub enum Written {
     // the place after the last byte written
     Next(usize),

@@ -33,7 +33,7 @@ pub use steps::step;
 pub use words::{Store, WORDS};
 
 // What a rule tells, beside the record.
-#[derive(Drop)]
+#[derive(Clone, Copy)]
 pub struct Told {
     pub code: i64,
     pub value: u32,
@@ -43,14 +43,14 @@ pub struct Told {
 }
 
 // What a call by value gives.
-#[derive(Drop)]
+#[derive(Clone, Copy)]
 pub struct Stepped {
     pub store: Store,
     pub answer: Answer,
 }
 
 // What a list of calls gives, beside its answers: the record after it, and its code.
-#[derive(Drop)]
+#[derive(Clone, Copy)]
 pub struct Ran {
     pub store: Store,
     pub code: i64,

@@ -100,7 +100,7 @@ pub const WORDS: usize = LINKS + 32 * LINK;
 
 // The record as a host holds it.
 #[repr(C)]
-#[derive(Drop)]
+#[derive(Clone, Copy)]
 pub struct Store {
     pub words: [u32; WORDS],
 }

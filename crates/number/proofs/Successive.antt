@@ -9,7 +9,7 @@ use native.Mathlib.Numerals.{add-one}
 use native.Mathlib.Omega.{arith}
 use borrow.Author.Tests.{le-leb, lt-leb, lt-ltb, le-ltb}
 use lib.Dec.{leb}
-use lib.ListN.{length, drop, get_or, length-append, drop_of_length-le, take-append-drop}
+use lib.ListN.{length, drop, get_or, set, length-append, drop_of_length-le, take-append-drop}
 use lib.Seq.{sets, length-sets, drop-cons, drop_at, drop-drop}
 use Rattle.number.specs.Reader.{Reading, number, refused, read_groups, read_number}
 use Rattle.number.specs.Writer.{number_bytes, written, unwritten, write_answer, write_buffer}
@@ -100,7 +100,7 @@ module _ {input values : List ℕ} {at : ℕ} (r : ReadsAll input values at) whe
 module _ {A : Type 0} where
   pub sets_after : (l : List A) (i : ℕ) (xs ys : List A) (j : ℕ) → j ≡ i + length xs → sets (sets l i xs) j ys ≡ sets l i (xs ++ ys)
   sets_after l i [] ys j e = let same : j ≡ i = omega arith in ap (λ (k : ℕ). sets l k ys) same
-  sets_after l i (x ∷ xs) ys j e = sets_after _ (suc i) xs ys j (omega arith)
+  sets_after l i (x ∷ xs) ys j e = sets_after (set l i x) (suc i) xs ys j (omega arith)
 
 -- the bytes of the numbers from a place on
 module _ (values : List ℕ) (i : ℕ) where

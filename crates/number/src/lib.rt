@@ -1,4 +1,6 @@
 // Numbers in groups of seven bits, lowest first: a reader and a writer on byte slices, and a writer of many.
+#![tactic(auto)]
+
 mod numbers;
 mod reader;
 mod writer;

@@ -4,7 +4,7 @@ ghost use Rattle.number.specs.Reader.{continued, read_groups, read_number};
 ghost use Rattle.number.specs.Answers.{decoded};
 
 // What reading tells; `decoded` gives document 01's code of each.
-#[derive(Drop)]
+#[derive(Clone, Copy)]
 pub enum Decoded {
     // the value, and the place after its last byte
     Value(u32, usize),

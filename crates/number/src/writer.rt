@@ -5,7 +5,7 @@ ghost use Rattle.number.specs.Writer.{number_bytes, write_answer, write_buffer};
 ghost use Rattle.number.specs.Answers.{encoded};
 
 // What writing tells; `encoded` gives document 01's code of each.
-#[derive(Drop)]
+#[derive(Clone, Copy)]
 pub enum Encoded {
     // the place after the last byte written
     Next(usize),

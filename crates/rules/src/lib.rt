@@ -5,7 +5,7 @@ ghost use Rattle.std.specs.Prelude.{◌≡◌};
 ghost use Rattle.rules.specs.Record.{fresh_party, fresh_link};
 
 // A party. Yes/no fields and other choices are numbers, so that whatever a host lends is a value that can be refused.
-#[derive(Drop)]
+#[derive(Clone, Copy)]
 pub struct Party {
     // 0 not opened, 1 opened
     pub opened: u32,
@@ -32,7 +32,7 @@ pub struct Party {
 }
 
 // A request or a conversation between its originator and the party that serves it.
-#[derive(Drop)]
+#[derive(Clone, Copy)]
 pub struct Link {
     pub number: u32,
     // 0 request, 1 conversation
@@ -64,7 +64,7 @@ pub struct Link {
     pub filled: u32,
 }
 
-#[derive(Drop)]
+#[derive(Clone, Copy)]
 pub struct Monitor {
     pub clock: u32,
     // the last number given to a link, and to a transaction
@@ -78,7 +78,7 @@ pub struct Monitor {
 }
 
 #[repr(C)]
-#[derive(Drop)]
+#[derive(Clone, Copy)]
 pub struct Call {
     pub clock: u32,
     pub party: u32,
@@ -89,7 +89,7 @@ pub struct Call {
 }
 
 #[repr(C)]
-#[derive(Drop)]
+#[derive(Clone, Copy)]
 pub struct Answer {
     pub code: i64,
     pub value: u32,
@@ -101,7 +101,7 @@ pub struct Answer {
 }
 
 // What a kind's rule gives: the record after it, and the answer's fields but the last.
-#[derive(Drop)]
+#[derive(Clone, Copy)]
 pub struct Ruled {
     pub monitor: Monitor,
     pub code: i64,
@@ -112,7 +112,7 @@ pub struct Ruled {
 }
 
 // What a call gives.
-#[derive(Drop)]
+#[derive(Clone, Copy)]
 pub struct Stepped {
     pub monitor: Monitor,
     pub answer: Answer,

@@ -10,7 +10,7 @@ use rules::codes;
 
 // What reading tells: 0 and the request, or a refusal and zeros.
 #[repr(C)]
-#[derive(Drop)]
+#[derive(Clone, Copy)]
 pub struct Read {
     pub code: i64,
     pub request: Request,

@@ -11,7 +11,7 @@ use rules::{Answer, Call, codes};
 
 // What a sequence says of a request. Yes is 1 and no is 0, so that whatever a host hands in is a value that can be refused.
 #[repr(C)]
-#[derive(Drop)]
+#[derive(Clone, Copy)]
 pub struct Request {
     pub service: u32,
     pub token: u32,
@@ -33,7 +33,7 @@ const TP_GRANT_CONTROL: u32 = 4;
 const TP_END_DIALOGUE: u32 = 5;
 
 // Up to seven numbers, 0 past the last; where there are more, the first seven, and a count of eight.
-#[derive(Drop)]
+#[derive(Clone, Copy)]
 pub struct Sequence {
     pub numbers: [u32; 7],
     pub count: usize,
@@ -112,7 +112,7 @@ pub(crate) fn no_request() -> Request
 
 // How many requests are to be written of a call, one or none, and which.
 #[repr(C)]
-#[derive(Drop)]
+#[derive(Clone, Copy)]
 pub struct Outgoing {
     pub count: u32,
     pub request: Request,

@@ -8,7 +8,7 @@ use rules::codes;
 
 // What writing tells: 0 and how many bytes were written, or a refusal and 0.
 #[repr(C)]
-#[derive(Drop)]
+#[derive(Clone, Copy)]
 pub struct Written {
     pub code: i64,
     pub length: usize,
