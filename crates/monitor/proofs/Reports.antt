@@ -7,7 +7,7 @@ use mathlib.Core.List.{List, [], ◌∷◌}
 use native.Mathlib.Omega.{arith}
 use borrow.Author.Tests.{ltb-true, ltb-false, lt-leb, le-leb, eq-eqb}
 use lib.Dec.{ltb, leb}
-use lib.ListN.{length, get_or, length-map}
+use lib.ListN.{length, get_or}
 use mir.Val.{Val}
 use denote.Laws.{Is}
 use denote.Struct.Declared.{row}
@@ -22,7 +22,7 @@ use Rattle.rules.proofs.Votes.{any_four}
 
 -- what owning a party tells: its array is as long as it is declared
 pub reports_long : (q : Party) (vs : List Val) → Is (row the_type) q vs → length q.reports ≡ 4
-reports_long q vs p = simp length-map at p.1.1.1.1.1.1.1.1.1.1.0.1.0.1
+reports_long q vs p = p.1.1.1.1.1.1.1.1.1.1.0.1.0.1
 
 not_above : (n x : ℕ) → not (ltb n x) ≡ leb x n
 not_above n x = test (ltb n x)

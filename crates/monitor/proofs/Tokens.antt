@@ -4,7 +4,7 @@ use Prim.Native.Nat.{ℕ}
 use mathlib.Core.Path.{◌≡◌}
 use mathlib.Core.List.{List, [], ◌∷◌, ◌++◌}
 use native.Mathlib.Omega.{arith}
-use lib.ListN.{length, drop, get_or, drop_of_length-le, length-map}
+use lib.ListN.{length, drop, get_or, drop_of_length-le}
 use lib.Seq.{drop-cons}
 use mir.Val.{Val}
 use denote.Laws.{Is}
@@ -14,7 +14,7 @@ use Rattle.rules.specs.declared.Link.{Link}
 
 -- what owning a link tells: its array is as long as it is declared
 pub unread_long : (l : Link) (vs : List Val) → Is (row the_type) l vs → length l.unread ≡ 4
-unread_long l vs p = simp length-map at p.1.1.1.1.1.1.1.1.1.1.1.1.1.1.1.1.0.1.0.1
+unread_long l vs p = p.1.1.1.1.1.1.1.1.1.1.1.1.1.1.1.1.0.1.0.1
 
 -- four places, each with what stood in the next
 pub shifted : (u : List ℕ) → length u ≡ 4 → (get_or u 1 0 ∷ get_or u 2 0 ∷ get_or u 3 0 ∷ 0 ∷ []) ≡ drop 1 u ++ (0 ∷ [])

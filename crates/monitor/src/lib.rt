@@ -1,5 +1,7 @@
 // The running monitor: its record as words that are lent and changed in place; one call, a list of calls, drill files, soundness, equality,
 // each equal to its definition in the crate rules.
+#![tactic(auto)]
+
 mod conversations;
 mod entry;
 mod equality;

@@ -1,0 +1,21 @@
+-- `file::piece_on` meets its contract.
+use Rattle.monitor.proofs.Usual.{sym, ◌∙◌, view, pick_false}
+use Rattle.monitor.specs.File.{piece_of}
+use Rattle.monitor.proofs.Calls.{piece_sound}
+use Rattle.monitor.proofs.file.piece_on.Goals as goal
+
+pub returns-then-not-ok : goal.returns-then-not-ok
+unfolding piece_of
+returns-then-not-ok c =
+    (sym (pick_false _ _ _ (sym c.is_sound_in-ok.ensures ∙ c.if-not-ok.true)), c.requires)
+
+pub run_calls-requires : goal.run_calls-requires
+run_calls-requires c =
+    (sym c.is_sound_in-ok.ensures ∙ c.if-not-ok.false, c.requires)
+
+pub returns : goal.returns
+returns c =
+    let a = c.args in
+    let r = c.run_calls.ensures in
+    let fine = sym c.is_sound_in-ok.ensures ∙ c.if-not-ok.false in
+    (piece_sound (view a.s.now) a.input.now a.last a.answers.now fine _ r.0, r.1)

@@ -1,0 +1,76 @@
+-- `file::run_calls` meets its contract.
+use Rattle.monitor.proofs.Usual.{ap, sym, ◌∙◌, arith, rules, pick, pick_true, pick_false}
+use Rattle.monitor.specs.File.{found, code_at}
+use Rattle.monitor.proofs.Calls.{runs_none, runs_one, runs_full, runs_end, calls_nothing, calls_broken, call_after, call_within}
+use Rattle.monitor.proofs.file.run_calls.Goals as goal
+
+pub loop-call-init : goal.loop-call-init
+loop-call-init c = (runs_none _ _ _ (search rules) c.requires.0, c.requires.1)
+
+pub returns-then-most-n : goal.returns-then-most-n
+unfolding found code_at
+returns-then-most-n c =
+    let k = c.loop-call.invariant in
+    let e = sym c.in-Whole.ensures in
+    (runs_end k.0 _ _ (runs_full k.0 c.if-most-n.true) (sym (ap (code_at _) e)), k.1)
+
+pub call_on-r-requires : goal.call_on-r-requires
+call_on-r-requires c =
+    let k = c.loop-call.invariant in
+    (k.0.fine, k.1)
+
+pub overflow_mul-n : goal.overflow_mul-n
+overflow_mul-n c =
+    let k = c.loop-call.invariant.0 in
+    omega (arith, k.room, k.short, c.if-most-n.false)
+
+pub put-requires : goal.put-requires
+put-requires c =
+    let k = c.loop-call.invariant.0 in
+    omega (arith, k.room, k.long, c.if-most-n.false)
+
+pub overflow_add-n : goal.overflow_add-n
+overflow_add-n c =
+    let k = c.loop-call.invariant.0 in
+    omega (arith, k.room, k.short, c.if-most-n.false)
+
+pub loop-call-smaller : goal.loop-call-smaller
+unfolding found
+loop-call-smaller c =
+    let e = sym c.in-Whole.ensures in
+    omega (arith, call_after _ _ _ _ e, call_within _ _ _ _ e)
+
+pub loop-call-preserved : goal.loop-call-preserved
+unfolding found
+loop-call-preserved c =
+    let e = sym c.in-Whole.ensures in
+    let r = c.call_on-r.ensures in
+    (runs_one c.loop-call.invariant.0 _ _ e c.if-most-n.false _ r.0 r.1 _ c.put.ensures, r.2)
+
+pub returns-in-End : goal.returns-in-End
+unfolding found code_at
+returns-in-End c =
+    let k = c.loop-call.invariant in
+    let e = sym c.in-End.ensures in
+    (runs_end k.0 _ _ (calls_nothing _ _ _ e) (sym (ap (code_at _) e)), k.1)
+
+pub returns-then-last : goal.returns-then-last
+unfolding found code_at pick
+returns-then-last c =
+    let k = c.loop-call.invariant in
+    let e = sym c.in-CutShort.ensures in
+    (runs_end k.0 _ _ (calls_broken _ _ _ 17 e) (sym (ap (code_at _) e ∙ pick_true _ _ _ c.if-last.true)), k.1)
+
+pub returns-in-CutShort : goal.returns-in-CutShort
+unfolding found code_at pick
+returns-in-CutShort c =
+    let k = c.loop-call.invariant in
+    let e = sym c.in-CutShort.ensures in
+    (runs_end k.0 _ _ (calls_broken _ _ _ 17 e) (sym (ap (code_at _) e ∙ pick_false _ _ _ c.if-last.false)), k.1)
+
+pub returns-in-Malformed : goal.returns-in-Malformed
+unfolding found code_at pick
+returns-in-Malformed c =
+    let k = c.loop-call.invariant in
+    let e = sym c.in-Malformed.ensures in
+    (runs_end k.0 _ _ (calls_broken _ _ _ 18 e) (sym (ap (code_at _) e)), k.1)

@@ -1,0 +1,12 @@
+-- `states::enter` meets its contract.
+use Rattle.monitor.proofs.Usual.{ap, ◌∙◌, Party, with_party, in_state, entered, view}
+use Rattle.monitor.proofs.states.enter.Goals as goal
+
+pub returns : goal.returns
+unfolding entered
+returns c =
+    let a = c.args in (
+      c.put_party.ensures.0
+          ∙ ap (with_party (view a.s.now) a.p) (c.in_state-k.ensures ∙ ap (λ (q : Party). in_state q a.state) c.party_at-q.ensures),
+      c.put_party.ensures.1,
+    )

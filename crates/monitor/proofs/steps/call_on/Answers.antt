@@ -1,0 +1,44 @@
+-- `steps::call_on` meets its contract.
+use Rattle.monitor.proofs.Usual.{ap, sym, ◌∙◌, arith, lt-leb, Stepped, sound, turned_down}
+use Rattle.monitor.proofs.Usual.{call_of, view, stepped, pick_true, pick_false}
+use Rattle.rules.specs.declared.Answer.{Answer}
+use Rattle.monitor.proofs.Steady.{clock_sound, call_sound, told_call, rule_room}
+use Rattle.monitor.proofs.steps.call_on.Goals as goal
+
+pub returns-then-not-known : goal.returns-then-not-known
+unfolding call_of turned_down
+returns-then-not-known c =
+    let m = view c.args.s.now in
+    let h = c.requires in
+    (ap (λ (r : Answer). stepped r m) c.turn_down.ensures ∙ sym (pick_false _ _ _ (c.if-not-known.true)), h.0, h.1)
+
+pub returns-then-c-gt15 : goal.returns-then-c-gt15
+unfolding call_of turned_down
+returns-then-c-gt15 c =
+    let m = view c.args.s.now in
+    let h = c.requires in (
+      ap (λ (r : Answer). stepped r m) c.turn_down-then-c-gt15.ensures
+          ∙ sym (pick_true _ _ _ (c.if-not-known.false) ∙ pick_false _ _ _ (lt-leb _ _ c.if-c-gt15.true)),
+      h.0,
+      h.1,
+    )
+
+pub rule-r-requires : goal.rule-r-requires
+rule-r-requires c =
+    let v = c.advance.ensures in
+    (omega (arith, c.if-c-gt15.false), clock_sound c.args.s.now c.args.c v.0 c.requires.0, v.1)
+
+pub tell-requires : goal.tell-requires
+tell-requires c =
+    let a = c.args in
+    let near = c.if-c-gt15.false in
+    let moved = c.advance.ensures.0 in
+    (omega (arith, near), rule_room a.s.now a.c (c.if-not-known.false) near _ moved _ c.rule-r.ensures.0 c.requires.0)
+
+pub returns : goal.returns
+returns c =
+    let a = c.args in
+    let r = c.rule-r.ensures in
+    let kind = c.if-not-known.false in
+    let e = c.tell.ensures ∙ told_call a.s.now a.c kind c.if-c-gt15.false _ c.advance.ensures.0 _ r.0 in
+    (e, ap (λ (s : Stepped). sound s.monitor) e ∙ call_sound a.s.now a.c c.requires.0, r.1)

@@ -1,0 +1,7 @@
+-- `transaction::is_expired` meets its contract.
+use Rattle.monitor.proofs.Usual.{sym, ◌∙◌}
+use Rattle.monitor.proofs.Owners.{expired_by}
+use Rattle.monitor.proofs.transaction.is_expired.Goals as goal
+
+pub returns : goal.returns
+returns c = c.is_late_at.ensures ∙ sym (expired_by c.args.s.now c.args.t c.live_owner-o.ensures)
