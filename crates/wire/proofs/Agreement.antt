@@ -7,7 +7,7 @@ use mathlib.Core.List.{List, [], ◌∷◌}
 use native.Mathlib.Omega.{arith}
 use borrow.Author.Tests.{eq-eqb, ne_eqb, eqb-true}
 use lib.Dec.{eqb}
-use lib.ListN.{length, drop, get_or, drop_of_length-le, length-map}
+use lib.ListN.{length, drop, get_or, drop_of_length-le}
 use mir.Val.{Val}
 use denote.Laws.{Is}
 use denote.Struct.Declared.{row}
@@ -19,7 +19,7 @@ use Rattle.wire.specs.contracts.sequence.Sequence.{the_type}
 
 -- what owning a sequence tells: its array is as long as it is declared
 pub seven_long : (s : Sequence) (vs : List Val) → Is (row the_type) s vs → length s.numbers ≡ 7
-seven_long s vs p = simp length-map at p.1.1.0.1.0.1
+seven_long s vs p = p.1.1.0.1.0.1
 
 -- two of one count are the same as far as they agree
 pub counted : {m n : ℕ} {b c : Bool} → m ≡ n → b ≡ c → eqb m n && b ≡ c
