@@ -1,4 +1,6 @@
 // Answers as text: one line a call, and the pieces of a drill file run and listed, turn after turn.
+#![tactic(auto)]
+
 mod piece;
 mod text;
 mod turn;
