@@ -3,12 +3,12 @@ from .terms import chain, chained, parts, show
 
 NAT, BOOL, EVENT, EVENTS = "ℕ", "Bool", "Event", ("List", "Event")
 BUILT_IN = {
-    "eqb": [NAT, NAT, BOOL], "leb": [NAT, NAT, BOOL], "max": [NAT, NAT, NAT], "not": [BOOL, BOOL], "Bool·beq": [BOOL, BOOL, BOOL],
+    "eqb": [NAT, NAT, BOOL], "leb": [NAT, NAT, BOOL], "max": [NAT, NAT, NAT], "not": [BOOL, BOOL], "beq": [BOOL, BOOL, BOOL],
     "true": [BOOL], "false": [BOOL], "[]": [EVENTS],
 }
 # the fields that the statement reads; each is exchanged for the others of its record
 FIELDS = {"call": ["clock", "party", "kind", "a", "b"], "answer": ["value", "event", "tx"]}
-ALIKE = {"accepted": "past21", "past21": "accepted", "replied": "accepted", "withValue": "withEvent", "withEvent": "withValue"}
+ALIKE = {"accepted": "past21", "past21": "accepted", "replied": "accepted", "with_value": "with_event", "with_event": "with_value"}
 OTHER_SIGN = {"&&": "||", "||": "&&"}
 
 
@@ -93,7 +93,7 @@ class Changes:
         elif name == "leb":
             yield ("app", f, [xs[1], xs[0]])
             yield ("app", f, [("op", "+", ("num", 1), xs[0]), xs[1]])
-        elif name == "Bool·beq":
+        elif name == "beq":
             yield ("op", "||", negation(xs[0]), xs[1])
             yield ("op", "||", xs[0], negation(xs[1]))
         elif name == "negsuc":

@@ -9,15 +9,11 @@ import tempfile
 
 from .terms import HISTORY, PROOFS, parts, read, show, show_type, text_of, topics
 
-USES = """use mathlib.Core.Path.{_≡_, refl}
-use mathlib.Core.List.{List, [], _∷_, _++_}
-use mathlib.Core.Bool.{Bool, true, false, cond, not, _&&_, _||_, Bool·beq}
-use Prim.Native.Nat.{ℕ, zero, suc, _+_, _/_, _%_, max}
-use lib.Dec.{eqb, leb}
-use lib.IntN.{ℤ, pos, negsuc}
-use lib.ListN.{getD, take, drop, length}
-use Rattle·rules.specs.declared.Answer.{Answer}
-use Rattle·rules.specs.declared.Call.{Call}
+USES = """use Rattle.std.specs.Prelude.{◌≡◌, refl, List, [], ◌∷◌, ◌++◌, Bool, true, false, cond, not, ◌&&◌, ◌||◌, ℕ, zero, suc, ◌+◌, ◌/◌, ◌%◌, max}
+use Rattle.std.specs.Prelude.{eqb, leb, ℤ, pos, negsuc, get_or, take, drop, length}
+use Rattle.std.specs.Bool.{beq}
+use Rattle.rules.specs.declared.Answer.{Answer}
+use Rattle.rules.specs.declared.Call.{Call}
 """
 
 
@@ -56,9 +52,9 @@ def module(history, rows, changed, cases):
     kept = [n for n in definitions if n not in changed]
     shut = [n for n in kept if definitions[n].shut]
     lines = [USES]
-    lines.append("use Rattle·rules.specs.History.{" + ", ".join(["Event"] + [n for n in kept if n in history]) + "}")
-    lines.append("use Rattle·histories·proofs.proofs.Rows.{" + ", ".join(["Row", "commit", "breaks"] + [n for n in kept if n in rows]) + "}")
-    lines += [f"use Rattle·histories·proofs.proofs.{t}" for t in topics()]
+    lines.append("use Rattle.rules.specs.History.{" + ", ".join(["Event"] + [n for n in kept if n in history]) + "}")
+    lines.append("use Rattle.histories.proofs.Rows.{" + ", ".join(["Row", "commit", "breaks"] + [n for n in kept if n in rows]) + "}")
+    lines += [f"use Rattle.histories.proofs.{t}" for t in topics()]
     for number, rules, verdicts in cases:
         def rename(name):
             return f"{name}·{number}" if name in changed else name
@@ -69,14 +65,14 @@ def module(history, rows, changed, cases):
                     left = [rename(d.name)] + [show(p, True) for p in patterns]
                     lines.append(f"{' '.join(left)} = {show(renamed(body, rename))}")
         for i, (entry, verdict) in enumerate(verdicts):
-            lines.append(f"verdict·{number}·{i} : {rename('holds')} ({rename('eventsOf')} ({entry.antt})) ≡ {'true' if verdict else 'false'}")
+            lines.append(f"verdict·{number}·{i} : {rename('holds')} ({rename('events_of')} ({entry.antt})) ≡ {'true' if verdict else 'false'}")
             lines += ["unfolding " + " ".join(shut)] * bool(shut) + [f"verdict·{number}·{i} = refl"]
     return "\n".join(lines) + "\n"
 
 
 def modules(history, histories, variants):
     rows = read(f"{PROOFS}/Rows.antt")
-    rows = {n: rows[n] for n in ("numbersOf", "placesOf", "thenRows", "eventsOf")}
+    rows = {n: rows[n] for n in ("numbers_of", "places_of", "then_rows", "events_of")}
     # the definitions as they were read and are written: each history has the verdict of its table
     yield "Unchanged", module(history, rows, {*history, *rows}, [(0, {}, [(e, e.right) for e in histories])])
     for d in history:
@@ -103,5 +99,5 @@ def prove(history, histories, variants):
         files["Lib"] = "".join(f"pub mod {name}\n" for name in files)
         for name, text in files.items():
             write(f"{PROOFS}/{name}.antt", text)
-        ran = subprocess.run(["rt", "check", "histories"], cwd=folder, stdout=subprocess.PIPE, stderr=subprocess.STDOUT, text=True)
+        ran = subprocess.run(["rt", "check"], cwd=os.path.join(folder, "crates/histories"), stdout=subprocess.PIPE, stderr=subprocess.STDOUT, text=True)
     return "" if ran.returncode == 0 else ran.stdout

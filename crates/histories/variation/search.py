@@ -30,9 +30,9 @@ def length(xs):
 
 
 NAMES = {
-    "eqb": "({} == {})", "leb": "({} <= {})", "max": "max({}, {})", "not": "(not {})", "Bool·beq": "({} == {})", "cond": "({1} if {0} else {2})",
+    "eqb": "({} == {})", "leb": "({} <= {})", "max": "max({}, {})", "not": "(not {})", "beq": "({} == {})", "cond": "({1} if {0} else {2})",
     "pos": "{}", "negsuc": "(-1 - {})", "zero": "0", "true": "True", "false": "False", "sender": "0", "commit": "1", "alone": "2", "[]": "()",
-    "getD": "place({}, {}, {})", "drop": "drop({}, {})", "take": "take({}, {})", "set": "replace({}, {}, {})", "length": "length({})",
+    "get_or": "place({}, {}, {})", "drop": "drop({}, {})", "take": "take({}, {})", "set": "replace({}, {}, {})", "length": "length({})",
 }
 SIGNS = {"&&": "({} and {})", "||": "({} or {})", "∷": "({}, {})", "++": "append({}, {})", "+": "({} + {})", "/": "({} // {})", "%": "({} % {})"}
 
@@ -104,7 +104,7 @@ class Entry:
         self.right = table != "spoilt"
         self.name = show(term if self.right else term[2][1])
         self.rows = value if self.right else value["rows"]
-        self.antt = f"getD {topic}.{table} {place} " + ("[]" if self.right else "(breaks commit []) .rows")
+        self.antt = f"get_or {topic}.{table} {place} []" if self.right else f"(get_or {topic}.{table} {place} (breaks commit [])).rows"
 
 
 def entries(history):
@@ -128,7 +128,7 @@ def search(history, histories):
     environment = environment_of({**history, **read(f"{PROOFS}/Rows.antt")})
 
     def is_told(entry):
-        return environment["d_holds"](environment["d_eventsOf"](entry.rows)) != entry.right
+        return environment["d_holds"](environment["d_events_of"](entry.rows)) != entry.right
     assert not any(is_told(e) for e in histories), "the search does not compute the statement"
     number = 0
     for d in history.values():

@@ -12,7 +12,7 @@ PROOFS = "crates/histories/proofs"
 
 LEVELS = [["||"], ["&&"], ["∷", "++"], ["+"], ["/", "%"]]
 TO_THE_RIGHT = {"||", "&&", "∷", "++"}
-TOKEN = re.compile(r"\s*(\|\||&&|∷|\+\+|\[\]|→|λ|[(){};=+/%]|\.[A-Za-z]\w*|[^\s(){};=+/%.→]+(?:\.[^\s(){};=+/%.→]+)*|\.)")
+TOKEN = re.compile(r"\s*(\|\||&&|∷|\+\+|\[\]|→|λ|[(){};=+/%]|\.[A-Za-z]\w*|[^\s(){};=+/%.→]+|\.)")
 
 
 class Reader:
@@ -48,13 +48,16 @@ class Reader:
             token = self.peek()
             if token in (None, ")", "}", ";", "=") or any(token in signs for signs in LEVELS):
                 return ("app", head, arguments) if arguments else head
-            if token.startswith(".") and len(token) > 1:
-                self.next()
-                head, arguments = ("field", ("app", head, arguments) if arguments else head, token[1:]), []
-            else:
-                arguments.append(self.atom())
+            arguments.append(self.atom())
 
     def atom(self):
+        """A term that may be handed over as it stands, with the fields that are taken of it."""
+        term = self.whole()
+        while (self.peek() or "").startswith(".") and len(self.peek()) > 1:
+            term = ("field", term, self.next()[1:])
+        return term
+
+    def whole(self):
         token = self.next()
         if token == "(":
             inner = self.term()
@@ -123,7 +126,7 @@ def read(path):
 
 def topics():
     """The files of histories: those that Verdicts takes its tables from."""
-    return re.findall(r"^use Rattle·histories·proofs\.proofs\.(\w+)$", text_of(f"{PROOFS}/Verdicts.antt"), re.M)
+    return re.findall(r"^use Rattle\.histories\.proofs\.(\w+)$", text_of(f"{PROOFS}/Verdicts.antt"), re.M)
 
 
 def show(term, inner=False):
@@ -133,13 +136,13 @@ def show(term, inner=False):
         return term[1]
     if term[0] == "rec":
         return "record { " + "; ".join(f"{f} = {show(x)}" for f, x in term[1]) + " }"
+    if term[0] == "field":
+        return f"{show(term[1], True)}.{term[2]}"
     if term[0] == "app":
         s = " ".join(show(x, True) for x in [term[1]] + term[2])
     elif term[0] == "op":
         left, right = (show(x, x[0] in ("op", "lam")) for x in term[2:])
         s = f"{left} {term[1]} {right}"
-    elif term[0] == "field":
-        s = f"{show(term[1], term[1][0] != 'field')} .{term[2]}"
     else:
         s = f"λ {term[1]}. {show(term[2])}"
     return f"({s})" if inner else s
