@@ -91,7 +91,8 @@ mod planted {
     }
 
     impl Fault {
-        /// The edit's name: `always_rolls_back`.
+        /// The edit's name, and that of its history in
+        /// `crates/histories/proofs/Faults.antt`: `always_rolls_back`.
         pub fn edit(self) -> String {
             let mut name = String::new();
             for c in format!("{self:?}").chars() {
@@ -101,13 +102,6 @@ mod planted {
                 name.push(c.to_ascii_lowercase());
             }
             name
-        }
-
-        /// The name of its history in `crates/histories/proofs/Faults.antt`:
-        /// `alwaysRollsBack`.
-        pub fn history_name(self) -> String {
-            let name = format!("{self:?}");
-            name[..1].to_lowercase() + &name[1..]
         }
     }
 
@@ -142,14 +136,14 @@ mod planted {
 
     /// The kinds by their names in `crates/histories/proofs/Rows.antt`.
     pub const KIND_NAMES: [(u32, &str); 21] = [
-        (1, "txOpen"),
-        (2, "txClose"),
-        (3, "txBegin"),
-        (4, "txCommit"),
-        (5, "txRollback"),
-        (6, "txInfo"),
-        (8, "txSetControl"),
-        (9, "txSetTimeout"),
+        (1, "tx_open"),
+        (2, "tx_close"),
+        (3, "tx_begin"),
+        (4, "tx_commit"),
+        (5, "tx_rollback"),
+        (6, "tx_info"),
+        (8, "tx_set_control"),
+        (9, "tx_set_timeout"),
         (10, "tpadvertise"),
         (12, "tpacall"),
         (13, "tpconnect"),
@@ -162,7 +156,7 @@ mod planted {
         (20, "tpreturn"),
         (21, "terminate"),
         (22, "report"),
-        (23, "setRights"),
+        (23, "set_rights"),
     ];
 }
 
@@ -183,7 +177,7 @@ mod tests {
 
     /// The rows of a fault's history; none if it has no history.
     fn rows(stored: &str, fault: Fault) -> Vec<Entry> {
-        let start = format!("\n{} =\n", fault.history_name());
+        let start = format!("\n{} =\n", fault.edit());
         let Some((_, rest)) = stored.split_once(&start) else {
             return Vec::new();
         };
@@ -266,7 +260,7 @@ mod tests {
         let stored = stored();
         for &fault in Fault::ALL {
             let rows = rows(&stored, fault);
-            let name = fault.history_name();
+            let name = fault.edit();
             assert_eq!(rows.is_empty(), NO_HISTORY.contains(&fault), "{name}");
             if rows.is_empty() {
                 continue;

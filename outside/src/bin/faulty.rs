@@ -239,8 +239,8 @@ fn main() -> ExitCode {
             return;
         };
         println!("-- breaks {rule}");
-        println!("abbrev pub {} : List Row", fault.history_name());
-        println!("{} =", fault.history_name());
+        println!("abbrev pub {} : List Row", fault.edit());
+        println!("{} =", fault.edit());
         let rows: Vec<String> = entries.iter().map(row).collect();
         println!("    {}\n    ∷ []", rows.join("\n    ∷ "));
     });
