@@ -108,8 +108,7 @@ fn meaning(s: Sequence) -> Read
 }
 
 // Reads every number of the input, of which the first bad one decides, 17 or 18; then what they say, or 33.
-#[unsafe(no_mangle)]
-pub extern "C" fn wire_read(input: &[u8]) -> Read
+pub fn wire_read(input: &[u8]) -> Read
     ensures { result ≡ read_of input.now }
 {
     let mut s = Sequence {

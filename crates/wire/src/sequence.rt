@@ -151,8 +151,7 @@ fn tx_joined(b: u32, tx: u32) -> u32
 }
 
 // What is to be written of a call with its answer: of an accepted kind 12 a request, of every other nothing.
-#[unsafe(no_mangle)]
-pub extern "C" fn wire_of(call: Call, answer: Answer) -> Outgoing
+pub fn wire_of(call: Call, answer: Answer) -> Outgoing
     ensures { result ≡ outgoing_of call answer }
 {
     let accepted = is_accepted(answer.code);

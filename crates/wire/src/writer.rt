@@ -15,8 +15,7 @@ pub struct Written {
 }
 
 // Puts a request's sequence into the buffer, from its front on: 22, then 16. Where it is refused the buffer stays as it was; 11 bytes are always enough.
-#[unsafe(no_mangle)]
-pub extern "C" fn wire_write(buffer: &mut [u8], request: Request) -> Written
+pub fn wire_write(buffer: &mut [u8], request: Request) -> Written
     ensures answer { result ≡ wire_answer buffer.old request }
     ensures bytes { buffer.new ≡ wire_buffer buffer.old request }
 {
