@@ -1,16 +1,15 @@
 // Bytes as text: a space and two hex digits for each.
+#![tactic(auto)]
 
-fn write_byte(fd: i32, byte: u8) -> bool {
-    let space = io::write_all(fd, b" ");
-    let digits = io::print_hex(fd, byte as u64, 2);
-    space & digits
+fn write_byte<P: Print>(out: &P, byte: u8) -> bool {
+    print!(out; " {byte:02x}").is_ok()
 }
 
 // Writes the bytes, and tells whether all of them were written.
-pub fn write_bytes(fd: i32, bytes: &[u8]) -> bool {
+pub fn write_bytes<P: Print>(out: &P, bytes: &[u8]) -> bool {
     let mut i = 0;
     while i < bytes.len() {
-        let ok = write_byte(fd, bytes[i]);
+        let ok = write_byte(out, bytes[i]);
         if !ok {
             return false;
         }
