@@ -1,8 +1,10 @@
 // Runs the reader and the writer over the borders and some hundreds of drawn numbers and inputs, a line each.
+#![tactic(auto)]
+
 ghost use Rattle.std.specs.Prelude.{◌<◌};
 
-use libc::STDOUT_FILENO;
 use number::{Decoded, Encoded};
+use std::io;
 
 // The numbers at the borders of each length.
 const VALUES: [u32; 14] = [
@@ -10,112 +12,115 @@ const VALUES: [u32; 14] = [
     2147483648, 4294967295,
 ];
 
-fn show_bytes(bytes: &[u8]) {
-    hex_io::write_bytes(STDOUT_FILENO, bytes);
+fn show_bytes(out: &impl Print, bytes: &[u8]) {
+    hex_io::write_bytes(out, bytes);
 }
 
-fn show_read(input: &[u8], place: usize) {
-    io::write_all(STDOUT_FILENO, b"read");
-    show_bytes(input);
-    io::write_all(STDOUT_FILENO, b" at ");
-    io::print_decimal(STDOUT_FILENO, place as u64);
+fn show_read(out: &impl Print, input: &[u8], place: usize) -> io::Result<()> {
+    out.write_all(b"read")?;
+    show_bytes(out, input);
+    out.write_all(b" at ")?;
+    out.print(place)?;
     match number::decode(input, place) {
         Decoded::Value(value, next) => {
-            io::write_all(STDOUT_FILENO, b": ");
-            io::print_decimal(STDOUT_FILENO, value as u64);
-            io::write_all(STDOUT_FILENO, b" next ");
-            io::print_decimal(STDOUT_FILENO, next as u64);
+            out.write_all(b": ")?;
+            out.print(value)?;
+            out.write_all(b" next ")?;
+            out.print(next)?;
         }
         Decoded::CutShort => {
-            io::write_all(STDOUT_FILENO, b": refused 17");
+            out.write_all(b": refused 17")?;
         }
         Decoded::Malformed => {
-            io::write_all(STDOUT_FILENO, b": refused 18");
+            out.write_all(b": refused 18")?;
         }
     }
-    io::write_all(STDOUT_FILENO, b"\n");
+    out.write_all(b"\n")
 }
 
 // Writes a number, shows the whole buffer, and reads at the same place.
-fn show_write(buffer: &mut [u8], place: usize, value: u32) {
-    io::write_all(STDOUT_FILENO, b"write ");
-    io::print_decimal(STDOUT_FILENO, value as u64);
-    io::write_all(STDOUT_FILENO, b" at ");
-    io::print_decimal(STDOUT_FILENO, place as u64);
+fn show_write(out: &impl Print, buffer: &mut [u8], place: usize, value: u32) -> io::Result<()> {
+    out.write_all(b"write ")?;
+    out.print(value)?;
+    out.write_all(b" at ")?;
+    out.print(place)?;
     match number::encode(buffer, place, value) {
         Encoded::Next(next) => {
-            io::write_all(STDOUT_FILENO, b": next ");
-            io::print_decimal(STDOUT_FILENO, next as u64);
+            out.write_all(b": next ")?;
+            out.print(next)?;
         }
         Encoded::NoRoom => {
-            io::write_all(STDOUT_FILENO, b": refused 16");
+            out.write_all(b": refused 16")?;
         }
     }
-    io::write_all(STDOUT_FILENO, b" in");
-    show_bytes(buffer);
-    io::write_all(STDOUT_FILENO, b"\n");
-    show_read(buffer, place);
+    out.write_all(b" in")?;
+    show_bytes(out, buffer);
+    out.write_all(b"\n")?;
+    show_read(out, buffer, place)
 }
 
 // Writes a number into the first bytes of eight.
-fn write_in_room(room: usize, place: usize, value: u32) {
+fn write_in_room(out: &impl Print, room: usize, place: usize, value: u32) -> io::Result<()> {
     let mut buffer = [0xEEu8; 8];
     if room <= 8 {
-        show_write(&mut buffer[0..room], place, value);
+        show_write(out, &mut buffer[0..room], place, value)?;
     }
+    Ok(())
 }
 
 // Each number at the borders in rooms of up to six bytes, at places from 0 to 2.
-fn write_borders() {
+fn write_borders(out: &impl Print) -> io::Result<()> {
     let mut turn: usize = 0;
     while turn < 294 {
-        write_in_room(turn / 3 % 7, turn % 3, VALUES[turn / 21]);
+        write_in_room(out, turn / 3 % 7, turn % 3, VALUES[turn / 21])?;
         turn += 1;
     }
+    Ok(())
 }
 
 // An input cut after each of its bytes, and whole at each place up to two past its end.
-fn read_border(input: &[u8]) {
+fn read_border(out: &impl Print, input: &[u8]) -> io::Result<()> {
     let mut cut = 0;
     while cut < input.len() {
-        show_read(&input[0..cut], 0);
+        show_read(out, &input[0..cut], 0)?;
         cut += 1;
     }
     let mut place = 0;
     while place < input.len() + 3 {
-        show_read(input, place);
+        show_read(out, input, place)?;
         place += 1;
     }
+    Ok(())
 }
 
-fn read_short_borders() {
-    read_border(b"\x00");
-    read_border(b"\x7F");
-    read_border(b"\x80\x01");
-    read_border(b"\xAC\x02");
-    read_border(b"\x80\x00");
-    read_border(b"\xFF\x00");
-    read_border(b"\xFF\x7F");
-    read_border(b"\x80\x80\x00");
-    read_border(b"\x80\x80\x01");
-    read_border(b"\xFF\xFF\x7F");
-    read_border(b"\x80\x80\x80\x00");
-    read_border(b"\x80\x80\x80\x01");
-    read_border(b"\xFF\xFF\xFF\x7F");
+fn read_short_borders(out: &impl Print) -> io::Result<()> {
+    read_border(out, b"\x00")?;
+    read_border(out, b"\x7F")?;
+    read_border(out, b"\x80\x01")?;
+    read_border(out, b"\xAC\x02")?;
+    read_border(out, b"\x80\x00")?;
+    read_border(out, b"\xFF\x00")?;
+    read_border(out, b"\xFF\x7F")?;
+    read_border(out, b"\x80\x80\x00")?;
+    read_border(out, b"\x80\x80\x01")?;
+    read_border(out, b"\xFF\xFF\x7F")?;
+    read_border(out, b"\x80\x80\x80\x00")?;
+    read_border(out, b"\x80\x80\x80\x01")?;
+    read_border(out, b"\xFF\xFF\xFF\x7F")
 }
 
-fn read_long_borders() {
-    read_border(b"\x80\x80\x80\x80\x00");
-    read_border(b"\x81\x80\x80\x80\x00");
-    read_border(b"\x80\x80\x80\x80\x01");
-    read_border(b"\x80\x80\x80\x80\x0F");
-    read_border(b"\x80\x80\x80\x80\x10");
-    read_border(b"\x80\x80\x80\x80\x7F");
-    read_border(b"\xFF\xFF\xFF\xFF\x0F");
-    read_border(b"\xFF\xFF\xFF\xFF\x10");
-    read_border(b"\xFF\xFF\xFF\xFF\x80");
-    read_border(b"\x80\x80\x80\x80\x80\x00");
-    read_border(b"\xFF\xFF\xFF\xFF\xFF\x01");
+fn read_long_borders(out: &impl Print) -> io::Result<()> {
+    read_border(out, b"\x80\x80\x80\x80\x00")?;
+    read_border(out, b"\x81\x80\x80\x80\x00")?;
+    read_border(out, b"\x80\x80\x80\x80\x01")?;
+    read_border(out, b"\x80\x80\x80\x80\x0F")?;
+    read_border(out, b"\x80\x80\x80\x80\x10")?;
+    read_border(out, b"\x80\x80\x80\x80\x7F")?;
+    read_border(out, b"\xFF\xFF\xFF\xFF\x0F")?;
+    read_border(out, b"\xFF\xFF\xFF\xFF\x10")?;
+    read_border(out, b"\xFF\xFF\xFF\xFF\x80")?;
+    read_border(out, b"\x80\x80\x80\x80\x80\x00")?;
+    read_border(out, b"\xFF\xFF\xFF\xFF\xFF\x01")
 }
 
 // The next state of the generator that draws numbers, below 2^31.
@@ -142,22 +147,23 @@ fn limited(drawn: u64, length: usize) -> u32 {
 }
 
 // Writes a number that is drawn in three steps, and answers the last state.
-fn write_one(state: u64, i: usize) -> u64 {
+fn write_one(out: &impl Print, state: u64, i: usize) -> io::Result<u64> {
     let high = step(state);
     let middle = step(high);
     let low = step(middle);
     let drawn = (draw(high) * 32768 + draw(middle)) * 32768 + draw(low);
-    write_in_room(8, i % 4, limited(drawn, i % 5));
-    low
+    write_in_room(out, 8, i % 4, limited(drawn, i % 5))?;
+    Ok(low)
 }
 
-fn write_drawn() {
+fn write_drawn(out: &impl Print) -> io::Result<()> {
     let mut state: u64 = 1;
     let mut i = 0;
     while i < 200 {
-        state = write_one(state, i);
+        state = write_one(out, state, i)?;
         i += 1;
     }
+    Ok(())
 }
 
 // A byte of an input that is drawn: three of four go on.
@@ -184,27 +190,28 @@ fn fill(first: u64, bytes: &mut [u8]) -> u64 {
 }
 
 // Reads seven bytes that are drawn, or the first of them.
-fn read_one(state: u64, i: usize) -> u64 {
+fn read_one(out: &impl Print, state: u64, i: usize) -> io::Result<u64> {
     let mut bytes = [0u8; 7];
     let last = fill(state, &mut bytes);
     let count = i % 8;
-    show_read(&bytes[0..count], i / 8 % 3);
-    last
+    show_read(out, &bytes[0..count], i / 8 % 3)?;
+    Ok(last)
 }
 
-fn read_drawn() {
+fn read_drawn(out: &impl Print) -> io::Result<()> {
     let mut state: u64 = 2;
     let mut i = 0;
     while i < 300 {
-        state = read_one(state, i);
+        state = read_one(out, state, i)?;
         i += 1;
     }
+    Ok(())
 }
 
-fn main() {
-    write_borders();
-    read_short_borders();
-    read_long_borders();
-    write_drawn();
-    read_drawn();
+fn main(rt: HostRuntime) -> io::Result<()> {
+    write_borders(&rt)?;
+    read_short_borders(&rt)?;
+    read_long_borders(&rt)?;
+    write_drawn(&rt)?;
+    read_drawn(&rt)
 }
