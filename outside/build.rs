@@ -1,4 +1,4 @@
-// The timing programs and the hosts link the proved libraries, where `rt staticlib` has written them.
+// The timing programs and the hosts link the proved libraries, where outside/build has put them.
 fn main() {
     let archive = concat!(env!("CARGO_MANIFEST_DIR"), "/../target/staticlib");
     println!("cargo:rustc-link-search=native={archive}");
