@@ -6,6 +6,7 @@ pub mod Closing
 pub mod Comparing
 pub mod FileTrip
 pub mod Laws
+pub mod Lending
 pub mod Lists
 pub mod Opening
 pub mod Owners
