@@ -3,8 +3,7 @@
 --     store_stored   so are the words of what is a Store
 -- Assumes nothing.
 use Prim.Native.Nat.{ℕ, zero, suc, ◌<◌}
-use mathlib.Core.Path.{◌≡◌, sym, subst}
-use mathlib.Core.List.{List, [], ◌∷◌, map-id}
+use mathlib.Core.List.{List, [], ◌∷◌}
 use mir.Val.{Val}
 use native.Mathlib.Nat.{le_of_suc-le-suc, not-suc-le-zero}
 use native.Mathlib.Omega.{arith}

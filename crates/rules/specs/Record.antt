@@ -1,6 +1,6 @@
 -- The monitor's record: what is fresh, readers, look-ups, changes.
 -- Assumes nothing.
-use Rattle.std.specs.Prelude.{ℕ, ◌+◌, ◌-◌, List, [], ◌∷◌, ◌++◌, Bool, not, ◌&&◌, ◌||◌, length, set, get_or, take, drop, replicate, eqb, ltb, ℤ}
+use Rattle.std.specs.Prelude.{ℕ, ◌+◌, ◌-◌, List, [], ◌∷◌, ◌++◌, Bool, ◌&&◌, ◌||◌, length, set, get_or, take, drop, replicate, eqb, ltb, ℤ}
 use Rattle.rules.specs.Choice.{pick, same}
 use Rattle.rules.specs.Codes.{tp_accepted, tpev_svc_err, tpev_svc_fail, tpev_svc_succ}
 use Rattle.rules.specs.Lists.{first_of, collect}

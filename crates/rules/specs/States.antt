@@ -1,6 +1,6 @@
 -- The TX state table (document 002): nine calls by five states.
 -- Assumes nothing.
-use Rattle.std.specs.Prelude.{ℕ, Bool, not, eqb, leb}
+use Rattle.std.specs.Prelude.{ℕ, Bool, eqb, leb}
 use Rattle.rules.specs.Choice.{pick}
 use Rattle.rules.specs.Record.{is_opened, is_chained, party, with_settings, with_party}
 use Rattle.rules.specs.Transaction.{tx_of}

@@ -1,4 +1,6 @@
 // The monitor's record, a call and its answer: the data that the rules in specs/ speak of. The crate monitor holds the record as words.
+#![tactic(auto)]
+
 pub mod codes;
 
 ghost use Rattle.std.specs.Prelude.{◌≡◌};

@@ -6,7 +6,7 @@ use mathlib.Core.Bool.{Bool, true, false, ◌||◌}
 use Prim.Native.Nat.{ℕ, suc}
 use lib.Dec.{eqb}
 use Rattle.rules.specs.Choice.{same}
-use Rattle.rules.specs.Record.{is_conversation, is_attached, is_waiting, is_working, is_ending, is_rollback_only, working, returned}
+use Rattle.rules.specs.Record.{is_conversation, is_attached, is_waiting, is_working, is_ending, is_rollback_only, working}
 use Rattle.rules.specs.Sound.{link_good}
 use Rattle.rules.specs.declared.Call.{Call}
 use Rattle.rules.specs.declared.Link.{Link}

@@ -8,7 +8,7 @@ use Rattle.rules.specs.declared.Link.{Link}
 use Rattle.rules.specs.declared.Party.{Party}
 use Rattle.rules.proofs.Logic.{Nz, pick_true, same_refl, same_true, same_ne, by_test, or_true, above_nz}
 use Rattle.rules.proofs.Fine.{tx_p}
-use Rattle.rules.proofs.History.Tells.{Tell, nothing, sent, given, finished}
+use Rattle.rules.proofs.History.Tells.{Tell, nothing, sent, given}
 use Rattle.rules.proofs.History.Moves.{Sane}
 use Rattle.rules.proofs.History.Shows.{Shows, Next, serves_after, is_made, is_finished, fails_now, disconnects_now}
 use Rattle.rules.proofs.History.World.{World}

@@ -7,7 +7,7 @@ use lib.Dec.{eqb}
 use lib.ListN.{get_or}
 use borrow.Author.Tests.{eqb-true, ltb-true}
 use Rattle.rules.specs.Codes.{bad_argument, no_such_end, in_transaction, timed_out, no_reply_yet}
-use Rattle.rules.specs.Record.{fresh_link, is_attached, is_request, is_returned, own_end, party, live, link_of}
+use Rattle.rules.specs.Record.{fresh_link, is_attached, is_request, is_returned, own_end, live, link_of}
 use Rattle.rules.specs.Record.{changed, removed, closed, valued}
 use Rattle.rules.specs.Replies.{request_end, outcome_code, fetched, fetch_one, replied_end, next_reply, fetch_any, fetch_of}
 use Rattle.rules.specs.Replies.{cancelled, cancel_of}
@@ -16,7 +16,6 @@ use Rattle.rules.specs.declared.Link.{Link}
 use Rattle.rules.specs.declared.Monitor.{Monitor}
 use Rattle.rules.proofs.Logic.{by_test, not_both, same_true, and_l, and_r, Nz}
 use Rattle.rules.proofs.Fine.{no_link, look, Fine}
-use Rattle.rules.proofs.Looks.{there}
 use Rattle.rules.proofs.Changes.{first_fits, first_look, first_there, changed_clock}
 use Rattle.rules.proofs.Changes.{changed_parties, changed_same, changed_other, changed_frame, removed_same}
 use Rattle.rules.proofs.Changes.{removed_other, removed_frame, removed_parties, removed_clock}
