@@ -1,4 +1,6 @@
 // Lends the monitor records that are broken in each way that soundness names, and sound ones at the borders and that no list leads to: a line each.
+#![tactic(auto)]
+
 mod alike;
 mod links;
 mod parties;
@@ -6,17 +8,19 @@ mod records;
 mod show;
 mod stored;
 
-fn main() {
-    links::counts();
-    links::numbers();
-    links::ranges();
-    links::choices();
-    parties::choices();
-    parties::served();
-    records::sound();
-    links::sound();
-    parties::sound();
-    show::lists();
-    show::commits();
-    show::answers();
+use std::io;
+
+fn main(rt: HostRuntime) -> io::Result<()> {
+    links::counts(&rt)?;
+    links::numbers(&rt)?;
+    links::ranges(&rt)?;
+    links::choices(&rt)?;
+    parties::choices(&rt)?;
+    parties::served(&rt)?;
+    records::sound(&rt)?;
+    links::sound(&rt)?;
+    parties::sound(&rt)?;
+    show::lists(&rt)?;
+    show::commits(&rt)?;
+    show::answers(&rt)
 }

@@ -2,59 +2,60 @@
 use super::records::{base, server, working};
 use super::show::show;
 use rules::Party;
+use std::io;
 
 // The record with another party 1.
-fn show_party(name: &[u8], q: Party) {
+fn show_party(out: &impl Print, name: &[u8], q: Party) -> io::Result<()> {
     let mut m = base();
     m.parties[1] = q;
-    show(name, m);
+    show(out, name, m)
 }
 
 // "fields with listed choices hold one of them"
-pub fn choices() {
+pub fn choices(out: &impl Print) -> io::Result<()> {
     let mut q = server();
     q.opened = 2;
-    show_party(b"opened 2", q);
+    show_party(out, b"opened 2", q)?;
     let mut q = server();
     q.control = 2;
-    show_party(b"control 2", q);
+    show_party(out, b"control 2", q)?;
     let mut q = server();
     q.rollbackonly = 2;
-    show_party(b"rollbackonly 2", q);
+    show_party(out, b"rollbackonly 2", q)?;
     let mut m = base();
     let mut q = m.parties[15];
     q.opened = 255;
     m.parties[15] = q;
-    show(b"opened 255, of party 15", m);
-    reports();
+    show(out, b"opened 255, of party 15", m)?;
+    reports(out)
 }
 
 // "one report or none a manager": 0, or 1 + b, or 8 + b where it can't start
-fn reports() {
+fn reports(out: &impl Print) -> io::Result<()> {
     let mut q = server();
     q.reports[0] = 15;
-    show_party(b"report 15 of the first manager", q);
+    show_party(out, b"report 15 of the first manager", q)?;
     let mut q = server();
     q.reports[1] = 256;
-    show_party(b"report 256 of the second manager", q);
+    show_party(out, b"report 256 of the second manager", q)?;
     let mut q = server();
     q.reports[2] = 4294967295;
-    show_party(b"report 4294967295 of the third manager", q);
+    show_party(out, b"report 4294967295 of the third manager", q)?;
     let mut q = server();
     q.reports[3] = 15;
-    show_party(b"report 15 of the fourth manager", q);
+    show_party(out, b"report 15 of the fourth manager", q)
 }
 
-fn show_served(name: &[u8], served: u32) {
+fn show_served(out: &impl Print, name: &[u8], served: u32) -> io::Result<()> {
     let mut q = server();
     q.served = served;
-    show_party(name, q);
+    show_party(out, name, q)
 }
 
 // "each served number names a working link with that party as server"
-pub fn served() {
-    show_served(b"served 3, no link", 3);
-    show_served(b"served 4294967295, no link", 4294967295);
+pub fn served(out: &impl Print) -> io::Result<()> {
+    show_served(out, b"served 3, no link", 3)?;
+    show_served(out, b"served 4294967295, no link", 4294967295)?;
     let mut m = base();
     let mut l = m.links[0];
     l.server = 1;
@@ -62,17 +63,17 @@ pub fn served() {
     let mut q = m.parties[1];
     q.served = 2;
     m.parties[1] = q;
-    show(b"served 2, a waiting link", m);
-    show_served(b"served 5, a returned link", 5);
-    served_elsewhere();
+    show(out, b"served 2, a waiting link", m)?;
+    show_served(out, b"served 5, a returned link", 5)?;
+    served_elsewhere(out)
 }
 
-fn served_elsewhere() {
+fn served_elsewhere(out: &impl Print) -> io::Result<()> {
     let mut m = base();
     let mut q = m.parties[2];
     q.served = 4;
     m.parties[2] = q;
-    show(b"served 4, of server 1, by party 2", m);
+    show(out, b"served 4, of server 1, by party 2", m)?;
     let mut m = base();
     let mut l = working();
     l.number = 6;
@@ -80,11 +81,11 @@ fn served_elsewhere() {
     let mut q = m.parties[1];
     q.served = 6;
     m.parties[1] = q;
-    show(b"served 6, past the last link", m);
+    show(out, b"served 6, past the last link", m)
 }
 
 // What soundness does not ask of a party; and a working link that its server does not serve.
-pub fn sound() {
+pub fn sound(out: &impl Print) -> io::Result<()> {
     let mut q = server();
     q.control = 1;
     q.timeout = 4294967295;
@@ -93,10 +94,10 @@ pub fn sound() {
     q.deadline = 18446744073709551615;
     q.rollbackonly = 1;
     q.reports = [14; 4];
-    show_party(b"sound, a party's other fields at their greatest", q);
+    show_party(out, b"sound, a party's other fields at their greatest", q)?;
     let mut q = server();
     q.mayrequest = 0;
     q.mayadvertise = 0;
-    show_party(b"sound, a party that may do nothing", q);
-    show_served(b"sound, served 0 beside a working link", 0);
+    show_party(out, b"sound, a party that may do nothing", q)?;
+    show_served(out, b"sound, served 0 beside a working link", 0)
 }

@@ -1,6 +1,7 @@
 // The sound record that each damage starts from, and others that are sound.
 use super::show::show;
 use rules::{Link, Monitor, Party};
+use std::io;
 
 // A request that waits, of party 0's transaction.
 fn waiting() -> Link {
@@ -157,17 +158,17 @@ pub fn full() -> Monitor {
     m
 }
 
-pub fn sound() {
+pub fn sound(out: &impl Print) -> io::Result<()> {
     let b = base();
-    show(b"sound, three links", b);
+    show(out, b"sound, three links", b)?;
     let f = fresh();
-    show(b"sound, fresh", f);
+    show(out, b"sound, fresh", f)?;
     let mut m = full();
-    show(b"sound, 32 links", m);
+    show(out, b"sound, 32 links", m)?;
     m.lastlink = 60000;
     m.lasttx = 60000;
     let mut l = m.links[31];
     l.number = 60000;
     m.links[31] = l;
-    show(b"sound, last numbers 60000", m);
+    show(out, b"sound, last numbers 60000", m)
 }
