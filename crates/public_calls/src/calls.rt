@@ -5,69 +5,71 @@ use super::show::{bytes, number, text};
 use super::stored::load;
 use monitor::{Found, Written};
 use rules::Call;
+use std::io;
 
-fn show_call(call: Call) {
-    number(call.clock as u64);
-    text(b" ");
-    number(call.party as u64);
-    text(b" ");
-    number(call.kind as u64);
-    text(b" ");
-    number(call.a as u64);
-    text(b" ");
-    number(call.b as u64);
-    text(b" ");
-    number(call.c as u64);
+fn show_call(rt: &impl Print, call: Call) -> io::Result<()> {
+    number(rt, call.clock as u64)?;
+    text(rt, b" ")?;
+    number(rt, call.party as u64)?;
+    text(rt, b" ")?;
+    number(rt, call.kind as u64)?;
+    text(rt, b" ")?;
+    number(rt, call.a as u64)?;
+    text(rt, b" ")?;
+    number(rt, call.b as u64)?;
+    text(rt, b" ")?;
+    number(rt, call.c as u64)
 }
 
 // What stands at a place; the place after it, where it is a call.
-fn show_read(name: &[u8], input: &[u8], place: usize) -> usize {
-    text(b"read_call ");
-    text(name);
-    text(b" at ");
-    number(place as u64);
-    text(b": ");
+fn show_read(rt: &impl Print, name: &[u8], input: &[u8], place: usize) -> io::Result<usize> {
+    text(rt, b"read_call ")?;
+    text(rt, name)?;
+    text(rt, b" at ")?;
+    number(rt, place as u64)?;
+    text(rt, b": ")?;
     let found = monitor::read_call(input, place);
     match found {
         Found::Whole(call, next) => {
-            show_call(call);
-            text(b", next ");
-            number(next as u64);
-            text(b"\n");
-            return next;
+            show_call(rt, call)?;
+            text(rt, b", next ")?;
+            number(rt, next as u64)?;
+            text(rt, b"\n")?;
+            return Ok(next);
         }
         Found::End => {
-            text(b"end\n");
+            text(rt, b"end\n")?;
         }
         Found::CutShort => {
-            text(b"17\n");
+            text(rt, b"17\n")?;
         }
         Found::Malformed => {
-            text(b"18\n");
+            text(rt, b"18\n")?;
         }
     }
-    place
+    Ok(place)
 }
 
 // Each place, one past the end, and the greatest.
-fn read_places(name: &[u8], input: &[u8]) {
+fn read_places(rt: &impl Print, name: &[u8], input: &[u8]) -> io::Result<()> {
     let mut place = 0;
     while place < input.len() + 2 {
-        show_read(name, input, place);
+        show_read(rt, name, input, place)?;
         place += 1;
     }
-    show_read(name, input, 18446744073709551615);
+    show_read(rt, name, input, 18446744073709551615)?;
+    Ok(())
 }
 
-fn read_file(name: &[u8]) {
-    let mut input = io::buffer();
-    let n = load(name, &mut input);
-    read_places(name, &input[..n]);
+fn read_file(rt: &HostRuntime, name: &str) -> io::Result<()> {
+    let mut input = [0u8; 4096];
+    let n = load(rt, name, &mut input);
+    read_places(rt, name.as_bytes(), &input[..n])
 }
 
-pub fn reads() {
-    read_file(b"case-06");
-    read_file(b"case-45");
+pub fn reads(rt: &HostRuntime) -> io::Result<()> {
+    read_file(rt, "case-06")?;
+    read_file(rt, "case-45")
 }
 
 // A call's numbers, from a place on.
@@ -98,70 +100,72 @@ pub fn numbers(input: &[u8], list: &mut [u32; 234]) {
 }
 
 // Writes a list at a place, shows the buffer, and reads there.
-fn show_write(list: &[u32], place: usize, buffer: &mut [u8]) {
-    text(b"write_calls ");
-    number(list.len() as u64);
-    text(b" numbers at ");
-    number(place as u64);
-    text(b" in ");
-    number(buffer.len() as u64);
-    text(b" bytes: ");
+fn show_write(rt: &impl Print, list: &[u32], place: usize, buffer: &mut [u8]) -> io::Result<()> {
+    text(rt, b"write_calls ")?;
+    number(rt, list.len() as u64)?;
+    text(rt, b" numbers at ")?;
+    number(rt, place as u64)?;
+    text(rt, b" in ")?;
+    number(rt, buffer.len() as u64)?;
+    text(rt, b" bytes: ")?;
     let written = monitor::write_calls(&mut *buffer, place, list);
     match written {
         Written::Next(next) => {
-            text(b"next ");
-            number(next as u64);
+            text(rt, b"next ")?;
+            number(rt, next as u64)?;
         }
         Written::NoRoom => {
-            text(b"16");
+            text(rt, b"16")?;
         }
         Written::Unfinished => {
-            text(b"17");
+            text(rt, b"17")?;
         }
     }
-    text(b",");
-    bytes(buffer);
-    text(b"\n");
-    let next = show_read(b"there", buffer, place);
-    show_read(b"there", buffer, next);
+    text(rt, b",")?;
+    bytes(rt, buffer);
+    text(rt, b"\n")?;
+    let next = show_read(rt, b"there", buffer, place)?;
+    show_read(rt, b"there", buffer, next)?;
+    Ok(())
 }
 
 // So many numbers of a list, into so many bytes, which hold ee.
-fn write(list: &[u32], count: usize, place: usize, room: usize) {
+fn write(rt: &impl Print, list: &[u32], count: usize, place: usize, room: usize) -> io::Result<()> {
     let mut buffer = [0xEEu8; 32];
     if count <= list.len() {
         if room <= 32 {
-            show_write(&list[0..count], place, &mut buffer[0..room]);
+            show_write(rt, &list[0..count], place, &mut buffer[0..room])?;
         }
     }
+    Ok(())
 }
 
-fn write_list(list: &[u32]) {
-    write(list, 12, 0, 27);
-    write(list, 12, 0, 26);
-    write(list, 12, 2, 29);
-    write(list, 12, 2, 28);
-    write(list, 12, 2, 32);
-    write(list, 6, 0, 13);
-    write(list, 6, 0, 12);
-    write(list, 0, 4, 4);
-    write(list, 0, 5, 4);
-    write(list, 6, 5, 4);
-    write(list, 0, 0, 0);
-    write(list, 11, 0, 32);
-    write(list, 1, 0, 32);
-    write(list, 7, 5, 4);
-    write(list, 12, 18446744073709551615, 32);
+fn write_list(rt: &impl Print, list: &[u32]) -> io::Result<()> {
+    write(rt, list, 12, 0, 27)?;
+    write(rt, list, 12, 0, 26)?;
+    write(rt, list, 12, 2, 29)?;
+    write(rt, list, 12, 2, 28)?;
+    write(rt, list, 12, 2, 32)?;
+    write(rt, list, 6, 0, 13)?;
+    write(rt, list, 6, 0, 12)?;
+    write(rt, list, 0, 4, 4)?;
+    write(rt, list, 0, 5, 4)?;
+    write(rt, list, 6, 5, 4)?;
+    write(rt, list, 0, 0, 0)?;
+    write(rt, list, 11, 0, 32)?;
+    write(rt, list, 1, 0, 32)?;
+    write(rt, list, 7, 5, 4)?;
+    write(rt, list, 12, 18446744073709551615, 32)
 }
 
-fn write_numbers(list: &[u32; 234]) {
-    write_list(list);
+fn write_numbers(rt: &impl Print, list: &[u32; 234]) -> io::Result<()> {
+    write_list(rt, list)
 }
 
-pub fn writes() {
-    let mut input = io::buffer();
-    let n = load(b"case-06", &mut input);
+pub fn writes(rt: &HostRuntime) -> io::Result<()> {
+    let mut input = [0u8; 4096];
+    let n = load(rt, "case-06", &mut input);
     let mut list = [0u32; 234];
     numbers(&input[..n], &mut list);
-    write_numbers(&list);
+    write_numbers(rt, &list)
 }

@@ -2,161 +2,202 @@
 use super::show::{number, places, signed, text};
 use super::stored::{load, same, unsound};
 use monitor::{FileRan, Store};
+use std::io;
 
 // Did any word of the record change?
-pub fn show_record(before: Store, after: Store) {
+pub fn show_record(rt: &impl Print, before: Store, after: Store) -> io::Result<()> {
     if same(before, after) {
-        text(b", record kept");
+        text(rt, b", record kept")
     } else {
-        text(b", record changed");
+        text(rt, b", record changed")
     }
 }
 
-fn show_ran(before: Store, ran: FileRan, answers: &[i64]) {
-    text(b"code ");
-    signed(ran.code);
-    text(b", calls ");
-    number(ran.calls as u64);
-    text(b", used ");
-    number(ran.used as u64);
+fn show_ran(rt: &impl Print, before: Store, ran: FileRan, answers: &[i64]) -> io::Result<()> {
+    text(rt, b"code ")?;
+    signed(rt, ran.code)?;
+    text(rt, b", calls ")?;
+    number(rt, ran.calls as u64)?;
+    text(rt, b", used ")?;
+    number(rt, ran.used as u64)?;
     let after = ran.store;
-    show_record(before, after);
-    text(b"\n");
-    places(answers);
+    show_record(rt, before, after)?;
+    text(rt, b"\n")?;
+    places(rt, answers)
 }
 
-fn show_file(m: Store, name: &[u8], input: &[u8], answers: &mut [i64]) {
-    text(b"run_file ");
-    text(name);
-    text(b", ");
-    number(input.len() as u64);
-    text(b" bytes, ");
-    number(answers.len() as u64);
-    text(b" places: ");
+fn show_file(
+    rt: &impl Print,
+    m: Store,
+    name: &[u8],
+    input: &[u8],
+    answers: &mut [i64],
+) -> io::Result<()> {
+    text(rt, b"run_file ")?;
+    text(rt, name)?;
+    text(rt, b", ")?;
+    number(rt, input.len() as u64)?;
+    text(rt, b" bytes, ")?;
+    number(rt, answers.len() as u64)?;
+    text(rt, b" places: ")?;
     let ran = monitor::run_file(m, input, &mut *answers);
-    show_ran(m, ran, answers);
+    show_ran(rt, m, ran, answers)
 }
 
-fn show_piece(m: Store, name: &[u8], input: &[u8], last: bool, answers: &mut [i64]) {
-    text(b"run_piece ");
-    text(name);
-    text(b", ");
-    number(input.len() as u64);
+fn show_piece(
+    rt: &impl Print,
+    m: Store,
+    name: &[u8],
+    input: &[u8],
+    last: bool,
+    answers: &mut [i64],
+) -> io::Result<()> {
+    text(rt, b"run_piece ")?;
+    text(rt, name)?;
+    text(rt, b", ")?;
+    number(rt, input.len() as u64)?;
     if last {
-        text(b" bytes, ends, ");
+        text(rt, b" bytes, ends, ")?;
     } else {
-        text(b" bytes, goes on, ");
+        text(rt, b" bytes, goes on, ")?;
     }
-    number(answers.len() as u64);
-    text(b" places: ");
+    number(rt, answers.len() as u64)?;
+    text(rt, b" places: ")?;
     let ran = monitor::run_piece(m, input, last, &mut *answers);
-    show_ran(m, ran, answers);
+    show_ran(rt, m, ran, answers)
 }
 
 // A stored file, with so many answer places.
-fn file(m: Store, name: &[u8], count: usize) {
-    let mut input = io::buffer();
-    let n = load(name, &mut input);
+fn file(rt: &HostRuntime, m: Store, name: &str, count: usize) -> io::Result<()> {
+    let mut input = [0u8; 4096];
+    let n = load(rt, name, &mut input);
     let mut answers = super::stored::places();
     if count <= 237 {
-        show_file(m, name, &input[0..n], &mut answers[0..count]);
+        show_file(rt, m, name.as_bytes(), &input[0..n], &mut answers[0..count])?;
     }
+    Ok(())
 }
 
-fn piece(m: Store, name: &[u8], last: bool, count: usize) {
-    let mut input = io::buffer();
-    let n = load(name, &mut input);
+fn piece(rt: &HostRuntime, m: Store, name: &str, last: bool, count: usize) -> io::Result<()> {
+    let mut input = [0u8; 4096];
+    let n = load(rt, name, &mut input);
     let mut answers = super::stored::places();
     if count <= 237 {
-        show_piece(m, name, &input[0..n], last, &mut answers[0..count]);
+        show_piece(
+            rt,
+            m,
+            name.as_bytes(),
+            &input[0..n],
+            last,
+            &mut answers[0..count],
+        )?;
     }
+    Ok(())
 }
 
 // Two calls, cut after a number of bytes.
-fn cut_file(input: &[u8], cut: usize) {
+fn cut_file(rt: &impl Print, input: &[u8], cut: usize) -> io::Result<()> {
     let mut answers = [77i64; 12];
     if cut <= input.len() {
-        show_file(Store::fresh(), b"case-06", &input[0..cut], &mut answers);
+        show_file(rt, Store::fresh(), b"case-06", &input[0..cut], &mut answers)?;
     }
+    Ok(())
 }
 
-fn cut_piece(input: &[u8], cut: usize) {
+fn cut_piece(rt: &impl Print, input: &[u8], cut: usize) -> io::Result<()> {
     let mut two = [77i64; 12];
     let mut one = [77i64; 6];
     if cut <= input.len() {
-        show_piece(Store::fresh(), b"case-06", &input[0..cut], false, &mut two);
-        show_piece(Store::fresh(), b"case-06", &input[0..cut], true, &mut one);
+        show_piece(
+            rt,
+            Store::fresh(),
+            b"case-06",
+            &input[0..cut],
+            false,
+            &mut two,
+        )?;
+        show_piece(
+            rt,
+            Store::fresh(),
+            b"case-06",
+            &input[0..cut],
+            true,
+            &mut one,
+        )?;
     }
+    Ok(())
 }
 
-fn cut_files(input: &[u8]) {
+fn cut_files(rt: &impl Print, input: &[u8]) -> io::Result<()> {
     let mut cut = 0;
     while cut < input.len() + 1 {
-        cut_file(input, cut);
+        cut_file(rt, input, cut)?;
         cut += 1;
     }
+    Ok(())
 }
 
-fn cut_pieces(input: &[u8]) {
+fn cut_pieces(rt: &impl Print, input: &[u8]) -> io::Result<()> {
     let mut cut = 0;
     while cut < input.len() + 1 {
-        cut_piece(input, cut);
+        cut_piece(rt, input, cut)?;
         cut += 1;
     }
+    Ok(())
 }
 
-fn whole_files(m: Store) {
-    file(m, b"case-00", 27);
-    file(m, b"case-00", 23);
-    file(m, b"case-01", 3);
-    file(m, b"case-01", 0);
-    file(m, b"case-06", 15);
-    file(m, b"case-06", 11);
-    file(m, b"case-35", 9);
-    file(m, b"case-35", 5);
-    file(m, b"case-41", 9);
-    file(m, b"case-43", 9);
-    file(m, b"case-45", 9);
-    file(m, b"case-48", 9);
-    file(m, b"case-48", 5);
-    file(m, b"base", 237);
-    file(m, b"base", 233);
+fn whole_files(rt: &HostRuntime, m: Store) -> io::Result<()> {
+    file(rt, m, "case-00", 27)?;
+    file(rt, m, "case-00", 23)?;
+    file(rt, m, "case-01", 3)?;
+    file(rt, m, "case-01", 0)?;
+    file(rt, m, "case-06", 15)?;
+    file(rt, m, "case-06", 11)?;
+    file(rt, m, "case-35", 9)?;
+    file(rt, m, "case-35", 5)?;
+    file(rt, m, "case-41", 9)?;
+    file(rt, m, "case-43", 9)?;
+    file(rt, m, "case-45", 9)?;
+    file(rt, m, "case-48", 9)?;
+    file(rt, m, "case-48", 5)?;
+    file(rt, m, "base", 237)?;
+    file(rt, m, "base", 233)
 }
 
-pub fn files() {
-    whole_files(Store::fresh());
-    let mut input = io::buffer();
-    let n = load(b"case-06", &mut input);
-    cut_files(&input[..n]);
-    text(b"last transaction number 60001\n");
+pub fn files(rt: &HostRuntime) -> io::Result<()> {
+    whole_files(rt, Store::fresh())?;
+    let mut input = [0u8; 4096];
+    let n = load(rt, "case-06", &mut input);
+    cut_files(rt, &input[..n])?;
+    text(rt, b"last transaction number 60001\n")?;
     let m = unsound();
-    file(m, b"case-00", 27);
-    file(m, b"case-00", 23);
-    file(m, b"case-01", 0);
-    file(m, b"case-43", 9);
+    file(rt, m, "case-00", 27)?;
+    file(rt, m, "case-00", 23)?;
+    file(rt, m, "case-01", 0)?;
+    file(rt, m, "case-43", 9)
 }
 
-fn whole_pieces(m: Store) {
-    piece(m, b"base", false, 0);
-    piece(m, b"base", false, 5);
-    piece(m, b"base", false, 6);
-    piece(m, b"base", true, 11);
-    piece(m, b"base", true, 60);
-    piece(m, b"case-41", false, 9);
-    piece(m, b"case-43", false, 9);
-    piece(m, b"case-43", true, 9);
-    piece(m, b"case-43", true, 5);
-    piece(m, b"case-48", false, 9);
-    piece(m, b"case-48", false, 5);
+fn whole_pieces(rt: &HostRuntime, m: Store) -> io::Result<()> {
+    piece(rt, m, "base", false, 0)?;
+    piece(rt, m, "base", false, 5)?;
+    piece(rt, m, "base", false, 6)?;
+    piece(rt, m, "base", true, 11)?;
+    piece(rt, m, "base", true, 60)?;
+    piece(rt, m, "case-41", false, 9)?;
+    piece(rt, m, "case-43", false, 9)?;
+    piece(rt, m, "case-43", true, 9)?;
+    piece(rt, m, "case-43", true, 5)?;
+    piece(rt, m, "case-48", false, 9)?;
+    piece(rt, m, "case-48", false, 5)
 }
 
-pub fn pieces() {
-    whole_pieces(Store::fresh());
-    let mut input = io::buffer();
-    let n = load(b"case-06", &mut input);
-    cut_pieces(&input[..n]);
-    text(b"last transaction number 60001\n");
+pub fn pieces(rt: &HostRuntime) -> io::Result<()> {
+    whole_pieces(rt, Store::fresh())?;
+    let mut input = [0u8; 4096];
+    let n = load(rt, "case-06", &mut input);
+    cut_pieces(rt, &input[..n])?;
+    text(rt, b"last transaction number 60001\n")?;
     let m = unsound();
-    piece(m, b"case-00", false, 27);
-    piece(m, b"case-43", true, 0);
+    piece(rt, m, "case-00", false, 27)?;
+    piece(rt, m, "case-43", true, 0)
 }

@@ -1,5 +1,7 @@
 // Runs the public calls that no other program runs: drill files and pieces of them, turns of the drill program, calls read and written, lists on a
 // fresh monitor, and which records are sound and equal. A line for each case, and the answer places.
+#![tactic(auto)]
+
 mod calls;
 mod files;
 mod fresh;
@@ -8,14 +10,16 @@ mod show;
 mod stored;
 mod turns;
 
-fn main() {
-    files::files();
-    files::pieces();
-    turns::turns();
-    calls::reads();
-    calls::writes();
-    let base = stored::base();
-    fresh::lists(base);
-    fresh::made(base);
-    records::changed(base);
+use std::io;
+
+fn main(rt: HostRuntime) -> io::Result<()> {
+    files::files(&rt)?;
+    files::pieces(&rt)?;
+    turns::turns(&rt)?;
+    calls::reads(&rt)?;
+    calls::writes(&rt)?;
+    let base = stored::base(&rt);
+    fresh::lists(&rt, base)?;
+    fresh::made(&rt, base)?;
+    records::changed(&rt, base)
 }

@@ -1,12 +1,12 @@
 // What is written: text, numbers, answer places, bytes.
-use libc::STDOUT_FILENO;
+use std::io;
 
-pub fn text(bytes: &[u8]) {
-    io::write_all(STDOUT_FILENO, bytes);
+pub fn text(rt: &impl Print, bytes: &[u8]) -> io::Result<()> {
+    rt.write_all(bytes)
 }
 
-pub fn number(n: u64) {
-    io::print_decimal(STDOUT_FILENO, n);
+pub fn number(rt: &impl Print, n: u64) -> io::Result<()> {
+    rt.print(n)
 }
 
 // A number without its sign.
@@ -17,40 +17,41 @@ fn magnitude(n: i64) -> u64 {
     n as u64
 }
 
-pub fn signed(n: i64) {
+pub fn signed(rt: &impl Print, n: i64) -> io::Result<()> {
     if n < 0 {
-        text(b"-");
+        text(rt, b"-")?;
     }
-    number(magnitude(n));
+    number(rt, magnitude(n))
 }
 
-pub fn yes(is: bool) {
+pub fn yes(rt: &impl Print, is: bool) -> io::Result<()> {
     if is {
-        text(b"yes");
+        text(rt, b"yes")
     } else {
-        text(b"no");
+        text(rt, b"no")
     }
 }
 
 // What comes after the place before this one.
-fn after_place(place: usize, count: usize) {
+fn after_place(rt: &impl Print, place: usize, count: usize) -> io::Result<()> {
     if (place % 6 == 0) | (place == count) {
-        text(b"\n");
+        text(rt, b"\n")
     } else {
-        text(b" ");
+        text(rt, b" ")
     }
 }
 
 // Answer places, six to a line.
-pub fn places(answers: &[i64]) {
+pub fn places(rt: &impl Print, answers: &[i64]) -> io::Result<()> {
     let mut i = 0;
     while i < answers.len() {
-        signed(answers[i]);
+        signed(rt, answers[i])?;
         i += 1;
-        after_place(i, answers.len());
+        after_place(rt, i, answers.len())?;
     }
+    Ok(())
 }
 
-pub fn bytes(bytes: &[u8]) {
-    hex_io::write_bytes(STDOUT_FILENO, bytes);
+pub fn bytes(rt: &impl Print, bytes: &[u8]) {
+    hex_io::write_bytes(rt, bytes);
 }

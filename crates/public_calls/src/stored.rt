@@ -1,21 +1,46 @@
 // Stored drill files, and the records that cases start from.
-ghost use Rattle.io.specs.Counts.{IsPrefixLen};
-ghost use Rattle.std.specs.Prelude.{◌≡◌, length};
+ghost use Rattle.std.specs.Prelude.{◌≡◌, ◌≤◌, length};
 
 use monitor::{Store, WORDS};
+use std::fs::File;
+use std::io::Read;
+use std::{fs, io};
+
+// Writes a line to standard error: the file that cannot be opened, a colon and why, without the error's number. Tells whether it was written.
+fn fail(rt: &HostRuntime, name: &str, error: io::Error) -> bool {
+    let Ok(words) = error.to_string(rt.alloc()) else {
+        return false;
+    };
+    let why = words.split(" (os error ").next().unwrap_or("");
+    eprintln!(rt; "{name}: {why}").is_ok()
+}
+
+// Reads until the buffer is full, the input ends or a read fails, and tells how many bytes it put at the buffer's start.
+pub fn read_full(file: &mut File, buffer: &mut [u8]) -> usize
+    ensures { result ≤ length buffer.new }
+{
+    let mut done = 0;
+    while done < buffer.len() {
+        let n = file.read(&mut buffer[done..]).unwrap_or(0);
+        if n == 0 {
+            break;
+        }
+        done += n;
+    }
+    done
+}
 
 // The bytes of a short file; nothing where it cannot be read.
-pub fn load(name: &[u8], buffer: &mut [u8]) -> usize
-    ensures { IsPrefixLen result buffer.new }
+pub fn load(rt: &HostRuntime, name: &str, buffer: &mut [u8]) -> usize
+    ensures { result ≤ length buffer.new }
 {
-    let fd = os::open_read(name);
-    if fd < 0 {
-        os::fail(name);
-        return 0;
+    match fs::open(rt, name) {
+        Ok(mut file) => read_full(&mut file, &mut *buffer),
+        Err(error) => {
+            fail(rt, name, error);
+            0
+        }
     }
-    let n = io::read_full(fd, &mut *buffer);
-    libc::close(fd);
-    n
 }
 
 // Answer places, which hold 77 before a call.
@@ -33,9 +58,9 @@ fn run_base(input: &[u8]) -> Store {
 }
 
 // The record after the file base: parties that own, serve and offer, three links, tokens unread.
-pub fn base() -> Store {
-    let mut input = io::buffer();
-    let n = load(b"base", &mut input);
+pub fn base(rt: &HostRuntime) -> Store {
+    let mut input = [0u8; 4096];
+    let n = load(rt, "base", &mut input);
     run_base(&input[..n])
 }
 
