@@ -1,4 +1,6 @@
 // The drill program: a drill file from standard input, its answers in lines to standard output.
-fn main() {
-    drill_io::list_all(libc::STDIN_FILENO, b"drill");
+#![tactic(auto)]
+
+fn main(rt: HostRuntime) {
+    drill_io::list_all(&mut rt.stdin(), &rt.stdout(), &rt.stderr(), b"drill");
 }

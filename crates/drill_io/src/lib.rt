@@ -1,11 +1,12 @@
-// A drill file from a descriptor, its answers in lines to standard output. A turn's two ends, what it reads and what it leaves, serve other programs on
-// drill files too.
+// A drill file from a reader, its answers in lines to an output. A turn's two ends, what it reads and what it leaves, serve other programs on drill files
+// too.
+#![tactic(auto)]
 
 ghost use Rattle.std.specs.Prelude.{true, false, ◌≡◌, ◌≤◌, ◌<◌, length};
 
-use libc::{STDERR_FILENO, STDOUT_FILENO};
 use listing::Turned;
 use monitor::Store;
+use std::io::Read;
 
 // What waits in the input's buffer: how many bytes, whether the input ended there, and whether it could be read.
 #[derive(Clone, Copy)]
@@ -17,7 +18,7 @@ pub struct Waiting {
 
 // Reads once, past the bytes that wait, unless the input has ended or the buffer is full. A read has room for a byte, so one that gives none has met the
 // input's end.
-pub fn receive(fd: i32, input: &mut [u8], count: usize, ended: bool) -> Waiting
+pub fn receive<R: Read>(source: &mut R, input: &mut [u8], count: usize, ended: bool) -> Waiting
     ensures { result.count ≤ length input.old }
 {
     if input.len() <= count {
@@ -34,22 +35,20 @@ pub fn receive(fd: i32, input: &mut [u8], count: usize, ended: bool) -> Waiting
             failed: false,
         };
     }
-    let got = libc::read(fd, &mut input[count..]);
-    if got < 0 {
+    let Ok(more) = source.read(&mut input[count..]) else {
         return Waiting {
             count,
             ended: true,
             failed: true,
         };
-    }
-    if got == 0 {
+    };
+    if more == 0 {
         return Waiting {
             count,
             ended: true,
             failed: false,
         };
     }
-    let more = io::count(got, &input[count..]);
     Waiting {
         count: count + more,
         ended: false,
@@ -80,16 +79,16 @@ impl State {
     }
 }
 
-fn tell(program: &[u8], what: &[u8]) {
-    io::write_all(STDERR_FILENO, program);
-    io::write_all(STDERR_FILENO, what);
+fn tell<E: Print>(errors: &E, program: &[u8], what: &[u8]) {
+    let _ = errors.write_all(program);
+    let _ = errors.write_all(what);
 }
 
 // Where the input cannot be read, the program tells so and stops.
-pub fn cannot_read(program: &[u8], store: Store) -> State
+pub fn cannot_read<E: Print>(errors: &E, program: &[u8], store: Store) -> State
     ensures { result.more ≡ false }
 {
-    tell(program, b": cannot read\n");
+    tell(errors, program, b": cannot read\n");
     State {
         store,
         count: 0,
@@ -99,13 +98,19 @@ pub fn cannot_read(program: &[u8], store: Store) -> State
 }
 
 // What a turn leaves, once its text was written; where it could not be, the program tells so and stops.
-pub fn after_turn(program: &[u8], turned: Turned, ended: bool, ok: bool) -> State
+pub fn after_turn<E: Print>(
+    errors: &E,
+    program: &[u8],
+    turned: Turned,
+    ended: bool,
+    ok: bool,
+) -> State
     ensures on { result.more ≡ true → turned.over ≡ false }
     ensures kept { result.count ≡ turned.kept }
 {
     let after = turned.store;
     if !ok {
-        tell(program, b": cannot write\n");
+        tell(errors, program, b": cannot write\n");
         return State {
             store: after,
             count: turned.kept,
@@ -122,8 +127,10 @@ pub fn after_turn(program: &[u8], turned: Turned, ended: bool, ok: bool) -> Stat
 }
 
 // One turn: reads, has the calls that are whole run and listed, and writes their lines. Where the file goes on there is room for the next read.
-fn turn(
-    fd: i32,
+fn turn<R: Read, P: Print, E: Print>(
+    source: &mut R,
+    out: &P,
+    errors: &E,
     program: &[u8],
     s: State,
     input: &mut [u8],
@@ -136,9 +143,9 @@ fn turn(
     ensures { result.more ≡ true → result.count < length input.old }
 {
     let before = s.store;
-    let waiting = receive(fd, &mut *input, s.count, s.ended);
+    let waiting = receive(source, &mut *input, s.count, s.ended);
     if waiting.failed {
-        return cannot_read(program, before);
+        return cannot_read(errors, program, before);
     }
     let ended = waiting.ended;
     let turned = listing::list_turn(
@@ -150,8 +157,8 @@ fn turn(
         &mut *output,
     );
     let written = turned.written;
-    let ok = io::write_all(STDOUT_FILENO, &output[..written]);
-    after_turn(program, turned, ended, ok)
+    let ok = out.write_all(&output[..written]).is_ok();
+    after_turn(errors, program, turned, ended, ok)
 }
 
 // Places for 496 answers, whose lines fit into 65,536 bytes.
@@ -161,18 +168,33 @@ fn answer_places() -> [i64; 2976]
     [0; 2976]
 }
 
-// Lists the drill file that a descriptor reads, up to its end, a bad number or a failure, which is told in the program's name.
-pub fn list_all(fd: i32, program: &[u8]) {
-    let mut read = io::large_buffer();
+fn large_buffer() -> [u8; 65536]
+    ensures { 65536 ≡ length result }
+{
+    [0; 65536]
+}
+
+// Lists the drill file that a reader gives, up to its end, a bad number or a failure, which is told in the program's name.
+pub fn list_all<R: Read, P: Print, E: Print>(source: &mut R, out: &P, errors: &E, program: &[u8]) {
+    let mut read = large_buffer();
     let input: &mut [u8] = &mut read;
     let mut said = answer_places();
     let answers: &mut [i64] = &mut said;
-    let mut text = io::large_buffer();
+    let mut text = large_buffer();
     let output: &mut [u8] = &mut text;
     let mut s = State::fresh();
     let mut turns: u64 = 18446744073709551615;
     while 0 < turns {
-        s = turn(fd, program, s, &mut *input, &mut *answers, &mut *output);
+        s = turn(
+            source,
+            out,
+            errors,
+            program,
+            s,
+            &mut *input,
+            &mut *answers,
+            &mut *output,
+        );
         if !s.more {
             return;
         }

@@ -1,7 +1,6 @@
 // A turn's text, and the bytes that are sent for its call.
 ghost use Rattle.std.specs.Prelude.{◌≤◌, length};
 
-use libc::STDOUT_FILENO;
 use monitor::Found;
 use rules::{Answer, Call};
 
@@ -51,28 +50,28 @@ fn line_end(text: &[u8]) -> usize
 }
 
 // Writes a text whose first line goes on with what is sent.
-fn write_with(text: &[u8], sent: &[u8]) -> bool {
+fn write_with<P: Print>(out: &P, text: &[u8], sent: &[u8]) -> bool {
     let end = line_end(text);
-    let line = io::write_all(STDOUT_FILENO, &text[0..end]);
+    let line = out.write_all(&text[0..end]).is_ok();
     if !line {
         return false;
     }
-    let colon = io::write_all(STDOUT_FILENO, b":");
-    let bytes = hex_io::write_bytes(STDOUT_FILENO, sent);
-    let rest = io::write_all(STDOUT_FILENO, &text[end..]);
+    let colon = out.write_all(b":").is_ok();
+    let bytes = hex_io::write_bytes(out, sent);
+    let rest = out.write_all(&text[end..]).is_ok();
     colon & (bytes & rest)
 }
 
 // Writes the text of a turn that found this at its front, the answer in these places, and tells whether all of it was written. A sequence takes at most
 // 11 bytes.
-pub fn write_lines(text: &[u8], found: Found, places: &[i64; 6]) -> bool {
+pub fn write_lines<P: Print>(out: &P, text: &[u8], found: Found, places: &[i64; 6]) -> bool {
     let Found::Whole(call, _) = found else {
-        return io::write_all(STDOUT_FILENO, text);
+        return out.write_all(text).is_ok();
     };
     let mut buffer = [0u8; 11];
     let count = put_sent(&mut buffer, call, answer_in(places));
     if count == 0 {
-        return io::write_all(STDOUT_FILENO, text);
+        return out.write_all(text).is_ok();
     }
-    write_with(text, &buffer[0..count])
+    write_with(out, text, &buffer[0..count])
 }

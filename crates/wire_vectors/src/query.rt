@@ -1,10 +1,27 @@
 // The three queries: what stands behind their first two bytes, and the calls that answer them. Each tells whether the query is whole and known.
-ghost use Rattle.std.specs.Prelude.{◌<◌};
+ghost use Rattle.std.specs.Prelude.{◌<◌, ◌≤◌, length};
 
 use super::show;
-use libc::STDIN_FILENO;
 use rules::{Answer, Call};
+use std::io::Read;
 use wire::Request;
+
+// Reads until the buffer is full, the input ends or a read fails, and tells how many bytes it put at the buffer's start.
+pub fn read_full<R: Read>(source: &mut R, buffer: &mut [u8]) -> usize
+    ensures { result ≤ length buffer.new }
+{
+    let mut done = 0;
+    while done < buffer.len() {
+        let Ok(more) = source.read(&mut buffer[done..]) else {
+            return done;
+        };
+        if more == 0 {
+            return done;
+        }
+        done += more;
+    }
+    done
+}
 
 fn wide(byte: u8) -> u32
     ensures { result < 256 }
@@ -21,19 +38,19 @@ fn number_at(query: &[u8; 52], at: usize) -> u32
 }
 
 // Bytes that are read: as many as are lent here.
-fn answer_bytes(query: &mut [u8]) -> bool {
-    let got = io::read_full(STDIN_FILENO, &mut *query);
+fn answer_bytes<R: Read, P: Print>(source: &mut R, out: &P, query: &mut [u8]) -> bool {
+    let got = read_full(source, &mut *query);
     if got < query.len() {
         return false;
     }
-    show::read(query);
+    show::read(out, query);
     true
 }
 
 // Bytes that are read: as many as the count says.
-pub fn answer_read(count: u8) -> bool {
+pub fn answer_read<R: Read, P: Print>(source: &mut R, out: &P, count: u8) -> bool {
     let mut query = [0u8; 255];
-    answer_bytes(&mut query[0..count as usize])
+    answer_bytes(source, out, &mut query[0..count as usize])
 }
 
 fn request_of(query: &[u8; 52]) -> Request {
@@ -46,17 +63,17 @@ fn request_of(query: &[u8; 52]) -> Request {
 }
 
 // A request that is written into so many bytes, at most 16, which hold ee.
-pub fn answer_write(room: u8) -> bool {
+pub fn answer_write<R: Read, P: Print>(source: &mut R, out: &P, room: u8) -> bool {
     if 16 < room {
         return false;
     }
     let mut query = [0u8; 52];
-    let got = io::read_full(STDIN_FILENO, &mut query[0..16]);
+    let got = read_full(source, &mut query[0..16]);
     if got < 16 {
         return false;
     }
     let mut buffer = [0xEEu8; 16];
-    show::write(&mut buffer[0..room as usize], request_of(&query));
+    show::write(out, &mut buffer[0..room as usize], request_of(&query));
     true
 }
 
@@ -96,16 +113,21 @@ fn answer_with(code: i64, query: &[u8; 52]) -> Answer {
 }
 
 // A call and its answer; the count is 0.
-pub fn answer_of(count: u8) -> bool {
+pub fn answer_of<R: Read, P: Print>(source: &mut R, out: &P, count: u8) -> bool {
     if count != 0 {
         return false;
     }
     let mut query = [0u8; 52];
-    let got = io::read_full(STDIN_FILENO, &mut query);
+    let got = read_full(source, &mut query);
     if got < 52 {
         return false;
     }
     let bits = code_bits(&query);
-    show::of(call_of(&query), bits, answer_with(signed(bits), &query));
+    show::of(
+        out,
+        call_of(&query),
+        bits,
+        answer_with(signed(bits), &query),
+    );
     true
 }

@@ -1,111 +1,110 @@
 // The lines: what was asked, and what the library's calls tell.
-use libc::STDOUT_FILENO;
 use rules::{Answer, Call, codes};
 use wire::Request;
 
-fn text(bytes: &[u8]) {
-    io::write_all(STDOUT_FILENO, bytes);
+fn text<P: Print>(out: &P, bytes: &[u8]) {
+    let _ = out.write_all(bytes);
 }
 
 // A space and a number.
-fn number(n: u64) {
-    text(b" ");
-    io::print_decimal(STDOUT_FILENO, n);
+fn number<P: Print>(out: &P, n: u64) {
+    text(out, b" ");
+    let _ = out.print(n);
 }
 
-fn bytes(bytes: &[u8]) {
-    hex_io::write_bytes(STDOUT_FILENO, bytes);
+fn bytes<P: Print>(out: &P, bytes: &[u8]) {
+    hex_io::write_bytes(out, bytes);
 }
 
-fn request(r: Request) {
-    number(r.service as u64);
-    number(r.token as u64);
-    number(r.reply as u64);
-    number(r.tx as u64);
+fn request<P: Print>(out: &P, r: Request) {
+    number(out, r.service as u64);
+    number(out, r.token as u64);
+    number(out, r.reply as u64);
+    number(out, r.tx as u64);
 }
 
-fn refusal(code: i64) {
+fn refusal<P: Print>(out: &P, code: i64) {
     match code {
-        16 => text(b" refused 16"),
-        17 => text(b" refused 17"),
-        18 => text(b" refused 18"),
-        22 => text(b" refused 22"),
-        33 => text(b" refused 33"),
-        _ => text(b" refused by another number"),
+        16 => text(out, b" refused 16"),
+        17 => text(out, b" refused 17"),
+        18 => text(out, b" refused 18"),
+        22 => text(out, b" refused 22"),
+        33 => text(out, b" refused 33"),
+        _ => text(out, b" refused by another number"),
     }
 }
 
-pub fn read(input: &[u8]) {
-    text(b"read");
-    bytes(input);
-    text(b":");
+pub fn read<P: Print>(out: &P, input: &[u8]) {
+    text(out, b"read");
+    bytes(out, input);
+    text(out, b":");
     let read = wire::wire_read(input);
     if read.code == codes::SEQUENCE_DONE {
-        request(read.request);
+        request(out, read.request);
     } else {
-        refusal(read.code);
+        refusal(out, read.code);
     }
-    text(b"\n");
+    text(out, b"\n");
 }
 
-pub fn write(buffer: &mut [u8], r: Request) {
-    text(b"write");
-    request(r);
-    text(b" room");
-    number(buffer.len() as u64);
-    text(b":");
+pub fn write<P: Print>(out: &P, buffer: &mut [u8], r: Request) {
+    text(out, b"write");
+    request(out, r);
+    text(out, b" room");
+    number(out, buffer.len() as u64);
+    text(out, b":");
     let written = wire::wire_write(&mut *buffer, r);
     if written.code == codes::SEQUENCE_DONE {
-        number(written.length as u64);
+        number(out, written.length as u64);
     } else {
-        refusal(written.code);
+        refusal(out, written.code);
     }
-    text(b" in");
-    bytes(buffer);
-    text(b"\n");
+    text(out, b" in");
+    bytes(out, buffer);
+    text(out, b"\n");
 }
 
-fn call(c: Call) {
-    number(c.clock as u64);
-    number(c.party as u64);
-    number(c.kind as u64);
-    number(c.a as u64);
-    number(c.b as u64);
-    number(c.c as u64);
+fn call<P: Print>(out: &P, c: Call) {
+    number(out, c.clock as u64);
+    number(out, c.party as u64);
+    number(out, c.kind as u64);
+    number(out, c.a as u64);
+    number(out, c.b as u64);
+    number(out, c.c as u64);
 }
 
 // A signed number, by its 64 bits.
-fn signed(bits: u64) {
+fn signed<P: Print>(out: &P, bits: u64) {
     if bits < 9223372036854775808 {
-        number(bits);
+        number(out, bits);
     } else {
-        text(b" -");
-        io::print_decimal(STDOUT_FILENO, 18446744073709551615 - bits + 1);
+        text(out, b" -");
+        let _ = out.print(18446744073709551615 - bits + 1);
     }
 }
 
 // An answer but its code.
-fn answer(a: Answer) {
-    number(a.value as u64);
-    number(a.event as u64);
-    number(a.token as u64);
-    number(a.service as u64);
-    number(a.tx as u64);
+fn answer<P: Print>(out: &P, a: Answer) {
+    number(out, a.value as u64);
+    number(out, a.event as u64);
+    number(out, a.token as u64);
+    number(out, a.service as u64);
+    number(out, a.tx as u64);
 }
 
 // The bits are those of the answer's code.
-pub fn of(c: Call, bits: u64, a: Answer) {
-    text(b"of");
-    call(c);
-    text(b",");
-    signed(bits);
-    answer(a);
-    text(b":");
+pub fn of<P: Print>(out: &P, c: Call, bits: u64, a: Answer) {
+    text(out, b"of");
+    call(out, c);
+    text(out, b",");
+    signed(out, bits);
+    answer(out, a);
+    text(out, b":");
     let outgoing = wire::wire_of(c, a);
     if outgoing.count == 1 {
-        request(outgoing.request);
+        request(out, outgoing.request);
     } else {
-        text(b" nothing");
+        text(out, b" nothing");
     }
-    text(b"\n");
+    text(out, b"\n");
 }
