@@ -1,0 +1,13 @@
+-- The text is within its lines, and where the file goes on what is kept leaves room.
+use Rattle.std.proofs.Common.{◌<◌, length, arith}
+use Rattle.listing.proofs.Turns.{turn_fits, turn_leaves_room}
+use Rattle.drill_wire.proofs.turn.Goals as goal
+
+pub slice_bounds-write_lines-end : goal.slice_bounds-write_lines-end
+slice_bounds-write_lines-end g c = omega (arith, turn_fits _ _ _ _ _ _ _ c.list_turn-turned.ensures, c.list_turn-turned.auto.out)
+
+pub returns : goal.returns
+returns g c e =
+    let large : 30 < length c.waiting_for-waiting.new.input = omega (arith, c.waiting_for-waiting.auto.input) in
+    let on = c.after_turn.ensures.on e in
+    omega (arith, turn_leaves_room _ _ _ _ _ _ (omega arith) large _ c.list_turn-turned.ensures on, c.after_turn.ensures.kept, c.waiting_for-waiting.auto.input)
