@@ -1,4 +1,5 @@
 pub mod Agreement
+pub mod Joined
 pub mod Padding
 pub mod RoundTrip
 pub mod Requests

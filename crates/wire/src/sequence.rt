@@ -138,6 +138,7 @@ fn reply_wanted(b: u32) -> u32
 }
 
 // Is the link of the caller's transaction (1), or of none (0)?
+#[tactic(auto, using(crate::proofs::Joined::flagged, crate::proofs::Joined::joined_none, crate::proofs::Joined::joined))]
 fn tx_joined(b: u32, tx: u32) -> u32
     ensures { result ≡ some_tx (pick (no_tran b) 0 tx) }
 {
