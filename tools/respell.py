@@ -1,7 +1,7 @@
 #!/usr/bin/env python3
 """Brings the names of this repository's own definitions and lemmas to snake case.
 
-usage: python3 tools/respell.py        at the top of the repository, once, after /opt/rattle/port/port.py
+usage: python3 tools/respell.py        at the top of the repository, once, after the port.py of the kit
 
 A name is one that a file of specs/, or a file of lemmas in proofs/, defines, or a field or a constructor there; types and modules keep
 their capitals. Such a name with a dash or an inner capital is turned wherever it stands: in .antt and .rt files (strings aside), in the
