@@ -6,5 +6,5 @@ mod reader;
 mod writer;
 
 pub use numbers::encode_all;
-pub use reader::{Decoded, decode};
-pub use writer::{Encoded, encode};
+pub use reader::{ReadError, decode};
+pub use writer::{NoRoom, encode};

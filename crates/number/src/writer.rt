@@ -4,35 +4,30 @@ ghost use Rattle.std.proofs.lemmas.List.Edits.{sets};
 ghost use Rattle.number.specs.Writer.{number_bytes, write_answer, write_buffer};
 ghost use Rattle.number.specs.Answers.{encoded};
 
-// What writing tells; `encoded` gives document 01's code of each.
-#[derive(Clone, Copy)]
-pub enum Encoded {
-    // the place after the last byte written
-    Next(usize),
-    // too little room at the place, and nothing is written
-    NoRoom,
-}
+// There is too little room at the place, and nothing is written; `encoded` gives document 01's code.
+#[derive(Clone, Copy, Debug, PartialEq, Eq)]
+pub struct NoRoom;
 
-// Puts a number into the buffer at a place. Where there is no room for all of it, the buffer stays as it was.
-pub fn encode(buffer: &mut [u8], place: usize, value: u32) -> Encoded
+// Puts a number into the buffer at a place, and answers the place after its last byte. Where there is no room for all of it, the
+// buffer stays as it was.
+pub fn encode(buffer: &mut [u8], place: usize, value: u32) -> Result<usize, NoRoom>
     ensures answer { encoded result ≡ write_answer buffer.old place (number_bytes 5 value) }
     ensures bytes { buffer.new ≡ write_buffer buffer.old place (number_bytes 5 value) }
 {
     if buffer.len() <= place {
-        return Encoded::NoRoom;
+        return Err(NoRoom);
     }
     if value < 128 {
         buffer[place] = value as u8;
-        return Encoded::Next(place + 1);
+        return Ok(place + 1);
     }
     let room = buffer.len() - place;
     let needed = size(value);
     if room < needed {
-        return Encoded::NoRoom;
+        return Err(NoRoom);
     }
     buffer[place] = (value % 128 + 128) as u8;
-    let next = encode_rest(buffer, place + 1, value / 128);
-    Encoded::Next(next)
+    Ok(encode_rest(buffer, place + 1, value / 128))
 }
 
 // How many bytes a number takes.
@@ -63,8 +58,8 @@ fn encode_rest(buffer: &mut [u8], place: usize, value: u32) -> usize
     let mut at = place;
     while 128 <= rest {
         buffer[at] = (rest % 128 + 128) as u8;
-        rest = rest / 128;
-        at = at + 1;
+        rest /= 128;
+        at += 1;
     }
     buffer[at] = rest as u8;
     at + 1

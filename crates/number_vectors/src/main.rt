@@ -3,7 +3,7 @@
 
 ghost use Rattle.std.specs.Prelude.{◌<◌};
 
-use number::{Decoded, Encoded};
+use number::{NoRoom, ReadError};
 use std::io;
 
 // The numbers at the borders of each length.
@@ -22,16 +22,16 @@ fn show_read(out: &impl Print, input: &[u8], place: usize) -> io::Result<()> {
     out.write_all(b" at ")?;
     out.print(place)?;
     match number::decode(input, place) {
-        Decoded::Value(value, next) => {
+        Ok((value, next)) => {
             out.write_all(b": ")?;
             out.print(value)?;
             out.write_all(b" next ")?;
             out.print(next)?;
         }
-        Decoded::CutShort => {
+        Err(ReadError::CutShort) => {
             out.write_all(b": refused 17")?;
         }
-        Decoded::Malformed => {
+        Err(ReadError::Malformed) => {
             out.write_all(b": refused 18")?;
         }
     }
@@ -45,11 +45,11 @@ fn show_write(out: &impl Print, buffer: &mut [u8], place: usize, value: u32) -> 
     out.write_all(b" at ")?;
     out.print(place)?;
     match number::encode(buffer, place, value) {
-        Encoded::Next(next) => {
+        Ok(next) => {
             out.write_all(b": next ")?;
             out.print(next)?;
         }
-        Encoded::NoRoom => {
+        Err(NoRoom) => {
             out.write_all(b": refused 16")?;
         }
     }
@@ -63,32 +63,30 @@ fn show_write(out: &impl Print, buffer: &mut [u8], place: usize, value: u32) -> 
 fn write_in_room(out: &impl Print, room: usize, place: usize, value: u32) -> io::Result<()> {
     let mut buffer = [0xEEu8; 8];
     if room <= 8 {
-        show_write(out, &mut buffer[0..room], place, value)?;
+        show_write(out, &mut buffer[..room], place, value)?;
     }
     Ok(())
 }
 
 // Each number at the borders in rooms of up to six bytes, at places from 0 to 2.
 fn write_borders(out: &impl Print) -> io::Result<()> {
-    let mut turn: usize = 0;
-    while turn < 294 {
-        write_in_room(out, turn / 3 % 7, turn % 3, VALUES[turn / 21])?;
-        turn += 1;
+    for value in VALUES {
+        for room in 0..7 {
+            for place in 0..3 {
+                write_in_room(out, room, place, value)?;
+            }
+        }
     }
     Ok(())
 }
 
 // An input cut after each of its bytes, and whole at each place up to two past its end.
 fn read_border(out: &impl Print, input: &[u8]) -> io::Result<()> {
-    let mut cut = 0;
-    while cut < input.len() {
-        show_read(out, &input[0..cut], 0)?;
-        cut += 1;
+    for cut in 0..input.len() {
+        show_read(out, &input[..cut], 0)?;
     }
-    let mut place = 0;
-    while place < input.len() + 3 {
+    for place in 0..input.len() + 3 {
         show_read(out, input, place)?;
-        place += 1;
     }
     Ok(())
 }
@@ -158,10 +156,8 @@ fn write_one(out: &impl Print, state: u64, i: usize) -> io::Result<u64> {
 
 fn write_drawn(out: &impl Print) -> io::Result<()> {
     let mut state: u64 = 1;
-    let mut i = 0;
-    while i < 200 {
+    for i in 0..200 {
         state = write_one(out, state, i)?;
-        i += 1;
     }
     Ok(())
 }
@@ -180,11 +176,9 @@ fn drawn_byte(state: u64) -> u8 {
 // Fills the bytes, and answers the last state.
 fn fill(first: u64, bytes: &mut [u8]) -> u64 {
     let mut state = first;
-    let mut i = 0;
-    while i < bytes.len() {
+    for byte in bytes.iter_mut() {
         state = step(state);
-        bytes[i] = drawn_byte(state);
-        i += 1;
+        *byte = drawn_byte(state);
     }
     state
 }
@@ -193,17 +187,14 @@ fn fill(first: u64, bytes: &mut [u8]) -> u64 {
 fn read_one(out: &impl Print, state: u64, i: usize) -> io::Result<u64> {
     let mut bytes = [0u8; 7];
     let last = fill(state, &mut bytes);
-    let count = i % 8;
-    show_read(out, &bytes[0..count], i / 8 % 3)?;
+    show_read(out, &bytes[..i % 8], i / 8 % 3)?;
     Ok(last)
 }
 
 fn read_drawn(out: &impl Print) -> io::Result<()> {
     let mut state: u64 = 2;
-    let mut i = 0;
-    while i < 300 {
+    for i in 0..300 {
         state = read_one(out, state, i)?;
-        i += 1;
     }
     Ok(())
 }

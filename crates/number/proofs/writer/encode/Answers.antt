@@ -51,8 +51,8 @@ returns-then-room-needed c =
       bytes = unfit_buffer _ _ _ (omega arith);
     }
 
-pub encode_rest-next-requires : goal.encode_rest-next-requires
-encode_rest-next-requires c =
+pub encode_rest-requires : goal.encode_rest-requires
+encode_rest-requires c =
     let e = one_more _ c.if-value-lt128.false in
     let s = c.size-needed.ensures in
     record {
@@ -66,7 +66,7 @@ returns c =
     let h = c.if-value-lt128.false in
     let e = one_more _ h in
     let s = c.size-needed.ensures in
-    let r = c.encode_rest-next.ensures in record {
+    let r = c.encode_rest.ensures in record {
       answer = ap written (r.next ∙ omega arith) ∙ fit_answer _ _ _ (omega arith);
       bytes = r.bytes ∙ stored _ h _ _ ∙ fit_buffer _ _ _ (omega arith);
     }
