@@ -40,10 +40,10 @@ fn decode_rest(input: &[u8], place: usize, low: u32) -> Result<(u32, usize), Rea
         let byte = input[at] as u32;
         at += 1;
         value += byte % 128 * weight;
-        if byte == 0 {
-            return Err(ReadError::Malformed);
-        }
         if byte < 128 {
+            if byte == 0 {
+                return Err(ReadError::Malformed);
+            }
             return Ok((value, at));
         }
     }
