@@ -1,6 +1,7 @@
 -- The drill file: what call stands at a place of its bytes, which whole calls it has, what running it gives, and the bytes of a list of calls.
 -- Assumes nothing.
-use Rattle.std.specs.Prelude.{ℕ, zero, suc, ◌*◌, ◌/◌, ◌%◌, Bool, true, List, [], ◌∷◌, ◌++◌, eqb, ltb, leb, ℤ, pos, drop, length}
+use Rattle.std.specs.Prelude.{ℕ, zero, suc, ◌*◌, ◌/◌, ◌%◌, Bool, true, List, [], ◌∷◌, ◌++◌, eqb, ltb, leb, ℤ, pos, drop, length, Option, Some, None, Ok, Err}
+use Rattle.std.specs.declared.result.Result.{Result}
 use Rattle.number.specs.Writer.{Writing, written, unwritten, write_answer, write_buffer}
 use Rattle.number.specs.Numbers.{Numbers, numbers, stopped, read_numbers, numbers_bytes}
 use Rattle.rules.specs.Choice.{pick}
@@ -9,10 +10,10 @@ use Rattle.rules.specs.Sound.{sound}
 use Rattle.rules.specs.Run.{call_at, ran_of, answers_of}
 use Rattle.rules.specs.declared.Call.{Call}
 use Rattle.rules.specs.declared.Monitor.{Monitor}
-use Rattle.monitor.specs.declared.file.Found.{Found}
-use Rattle.monitor.specs.declared.file.Found.TheVariants.{Whole, End, CutShort, Malformed}
-use Rattle.monitor.specs.declared.file.Written.{Written}
-use Rattle.monitor.specs.declared.file.Written.TheVariants.{Next, NoRoom, Unfinished}
+use Rattle.number.specs.declared.reader.ReadError.{ReadError}
+use Rattle.number.specs.declared.reader.ReadError.TheVariants.{CutShort, Malformed}
+use Rattle.monitor.specs.declared.file.WriteError.{WriteError}
+use Rattle.monitor.specs.declared.file.WriteError.TheVariants.{NoRoom, Unfinished}
 
 -- ---- reading
 
@@ -31,11 +32,11 @@ unfoldable pub read_call : List ℕ → ℕ → CallReading
 read_call input place = pick (ltb place (length input)) (as_call (read_numbers 6 input place)) nothing
 
 -- the code's answer, in document 01's numbers
-unfoldable pub found : Found → CallReading
-found (Whole call next) = called call next
-found End = nothing
-found CutShort = broken 17
-found Malformed = broken 18
+unfoldable pub found : Result (Option (Call × ℕ)) ReadError → CallReading
+found (Ok (Some (call, next))) = called call next
+found (Ok None) = nothing
+found (Err CutShort) = broken 17
+found (Err Malformed) = broken 18
 
 -- ---- the whole calls of a file
 
@@ -111,10 +112,10 @@ file_of m input out = pick (leb (file_calls input).count (length out / 6)) (piec
 -- ---- writing
 
 -- the code's answer, in document 01's numbers
-unfoldable pub file_written : Written → Writing
-file_written (Next place) = written place
-file_written NoRoom = unwritten 16
-file_written Unfinished = unwritten 17
+unfoldable pub file_written : Result ℕ WriteError → Writing
+file_written (Ok place) = written place
+file_written (Err NoRoom) = unwritten 16
+file_written (Err Unfinished) = unwritten 17
 
 -- is the list's length a multiple of six?
 unfoldable pub whole_calls : List ℕ → Bool

@@ -3,65 +3,30 @@ ghost use Rattle.std.specs.Prelude.{◌≡◌, true, length};
 ghost use Rattle.rules.specs.Sound.{sound};
 ghost use Rattle.monitor.specs.Words.{words};
 ghost use Rattle.monitor.specs.View.{view};
+ghost use Rattle.monitor.specs.declared.file.WriteError.TheVariants.{NoRoom};
 ghost use Rattle.monitor.specs.File.{read_call, found, passed, piece_run, piece_of, file_of, file_calls, file_written, file_answer, file_buffer};
 
 use super::run::put;
 use super::sound::is_sound_in;
 use super::steps::call_on;
 use super::words::{Store, WORDS};
-use number::{Decoded, Encoded};
+use number::{NoRoom, ReadError};
 use rules::{Call, codes};
 
-// What stands at a place of a drill file.
-#[derive(Clone, Copy)]
-pub enum Found {
-    // a whole call, and the place after it
-    Whole(Call, usize),
-    // the file ends between two calls
-    End,
-    // it ends inside a call
-    CutShort,
-    // a number that is too long, too large or longer than needed
-    Malformed,
-}
-
-// The call at a place.
-pub fn read_call(input: &[u8], place: usize) -> Found
+// The call at a place, and the place after it; none where the file ends between two calls.
+pub fn read_call(input: &[u8], place: usize) -> Result<Option<(Call, usize)>, ReadError>
     ensures { found result ≡ read_call input.now place }
 {
     if input.len() <= place {
-        return Found::End;
+        return Ok(None);
     }
     let mut values = [0u32; 6];
     let mut at = place;
-    let mut i = 0;
-    while i < 6 {
-        let read = number::decode(input, at);
-        match read {
-            Decoded::Value(value, next) => {
-                values[i] = value;
-                at = next;
-                i += 1;
-            }
-            Decoded::CutShort => {
-                return Found::CutShort;
-            }
-            Decoded::Malformed => {
-                return Found::Malformed;
-            }
-        }
+    for value in &mut values {
+        (*value, at) = number::decode(input, at)?;
     }
-    Found::Whole(
-        Call {
-            clock: values[0],
-            party: values[1],
-            kind: values[2],
-            a: values[3],
-            b: values[4],
-            c: values[5],
-        },
-        at,
-    )
+    let [clock, party, kind, a, b, c] = values;
+    Ok(Some((Call { clock, party, kind, a, b, c }, at)))
 }
 
 // What a drill file tells, beside its answers and the record: its code, how many calls were run, and the place after them.
@@ -91,51 +56,27 @@ fn run_calls(s: &mut [u32; WORDS], input: &[u8], last: bool, answers: &mut [i64]
     let most = answers.len() / 6;
     let mut at = 0;
     let mut n = 0;
-    loop {
-        let found = read_call(input, at);
-        match found {
-            Found::Whole(call, next) => {
+    let code = loop {
+        match read_call(input, at) {
+            Ok(Some((call, next))) => {
                 if most <= n {
-                    return Passed {
-                        code: codes::FILE_RUN,
-                        calls: n,
-                        used: at,
-                    };
+                    break codes::FILE_RUN;
                 }
                 let r = call_on(&mut *s, call);
                 put(&mut *answers, n * 6, r);
                 at = next;
                 n += 1;
             }
-            Found::End => {
-                return Passed {
-                    code: codes::FILE_RUN,
-                    calls: n,
-                    used: at,
-                };
-            }
-            Found::CutShort => {
-                if last {
-                    return Passed {
-                        code: codes::CUT_SHORT,
-                        calls: n,
-                        used: at,
-                    };
-                }
-                return Passed {
-                    code: codes::FILE_RUN,
-                    calls: n,
-                    used: at,
-                };
-            }
-            Found::Malformed => {
-                return Passed {
-                    code: codes::MALFORMED,
-                    calls: n,
-                    used: at,
-                };
-            }
+            Ok(None) => break codes::FILE_RUN,
+            Err(ReadError::CutShort) if last => break codes::CUT_SHORT,
+            Err(ReadError::CutShort) => break codes::FILE_RUN,
+            Err(ReadError::Malformed) => break codes::MALFORMED,
         }
+    };
+    Passed {
+        code,
+        calls: n,
+        used: at,
     }
 }
 
@@ -181,21 +122,14 @@ fn count_calls(input: &[u8]) -> usize
     let mut at = 0;
     let mut n = 0;
     loop {
-        let found = read_call(input, at);
-        match found {
-            Found::Whole(_, next) => {
+        match read_call(input, at) {
+            Ok(Some((_, next))) => {
                 at = next;
                 n += 1;
             }
-            Found::End => {
-                return n;
-            }
-            Found::CutShort => {
-                return n;
-            }
-            Found::Malformed => {
-                return n;
-            }
+            // An arm each, and no `while let`: under one pattern for both, no proof was found.
+            Ok(None) => return n,
+            Err(_) => return n,
         }
     }
 }
@@ -230,28 +164,31 @@ pub fn run_file(mut m: Store, input: &[u8], answers: &mut [i64]) -> FileRan
     }
 }
 
-// What writing a file tells.
-#[derive(Clone, Copy)]
-pub enum Written {
-    // the place after the last byte written
-    Next(usize),
-    // too little room at the place, and nothing is written
+// Why nothing is written; `file_written` gives document 01's code of each.
+#[derive(Clone, Copy, Debug, PartialEq, Eq)]
+pub enum WriteError {
+    // too little room at the place
     NoRoom,
-    // the list ends inside a call, and nothing is written
+    // the list ends inside a call
     Unfinished,
 }
 
-// A list of calls, six numbers to a call, put into the buffer at a place. Where it is refused the buffer stays as it was.
-pub fn write_calls(buffer: &mut [u8], place: usize, calls: &[u32]) -> Written
+impl From<NoRoom> for WriteError {
+    ghost from_gives = { λ _ e. e ≡ NoRoom };
+
+    fn from(_: NoRoom) -> WriteError {
+        WriteError::NoRoom
+    }
+}
+
+// A list of calls, six numbers to a call, put into the buffer at a place; answers the place after the last byte. Where it is refused the
+// buffer stays as it was.
+pub fn write_calls(buffer: &mut [u8], place: usize, calls: &[u32]) -> Result<usize, WriteError>
     ensures answer { file_written result ≡ file_answer buffer.old place calls.now }
     ensures bytes { buffer.new ≡ file_buffer buffer.old place calls.now }
 {
     if calls.len() % 6 != 0 {
-        return Written::Unfinished;
+        return Err(WriteError::Unfinished);
     }
-    let wrote = number::encode_all(buffer, place, calls);
-    match wrote {
-        Encoded::Next(next) => Written::Next(next),
-        Encoded::NoRoom => Written::NoRoom,
-    }
+    Ok(number::encode_all(buffer, place, calls)?)
 }

@@ -26,7 +26,7 @@ pub use entry::{
     monitor_equal, monitor_file, monitor_fresh, monitor_run, monitor_sound, monitor_step,
 };
 pub use equality::equal;
-pub use file::{FileRan, Found, Passed, Written, read_call, run_file, run_piece, write_calls};
+pub use file::{FileRan, Passed, WriteError, read_call, run_file, run_piece, write_calls};
 pub use fresh::run_fresh;
 use rules::Answer;
 pub use run::run_list;

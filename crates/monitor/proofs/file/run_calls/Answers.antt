@@ -7,13 +7,6 @@ use Rattle.monitor.proofs.file.run_calls.Goals as goal
 pub loop-call-init : goal.loop-call-init
 loop-call-init c = (runs_none _ _ _ (search rules) c.requires.0, c.requires.1)
 
-pub returns-then-most-n : goal.returns-then-most-n
-unfolding found code_at
-returns-then-most-n c =
-    let k = c.loop-call.invariant in
-    let e = sym c.in-Whole.ensures in
-    (runs_end k.0 _ _ (runs_full k.0 c.if-most-n.true) (sym (ap (code_at _) e)), k.1)
-
 pub call_on-r-requires : goal.call_on-r-requires
 call_on-r-requires c =
     let k = c.loop-call.invariant in
@@ -37,40 +30,47 @@ overflow_add-n c =
 pub loop-call-smaller : goal.loop-call-smaller
 unfolding found
 loop-call-smaller c =
-    let e = sym c.in-Whole.ensures in
+    let e = sym (rw c.in-Ok-Some.field-0-is at c.in-Ok-Some.ensures) in
     omega (arith, call_after _ _ _ _ e, call_within _ _ _ _ e)
 
 pub loop-call-preserved : goal.loop-call-preserved
 unfolding found
 loop-call-preserved c =
-    let e = sym c.in-Whole.ensures in
+    let e = sym (rw c.in-Ok-Some.field-0-is at c.in-Ok-Some.ensures) in
     let r = c.call_on-r.ensures in
     (runs_one c.loop-call.invariant.0 _ _ e c.if-most-n.false _ r.0 r.1 _ c.put.ensures, r.2)
 
-pub returns-in-End : goal.returns-in-End
+pub returns-then-most-n : goal.returns-then-most-n
 unfolding found code_at
-returns-in-End c =
+returns-then-most-n c =
     let k = c.loop-call.invariant in
-    let e = sym c.in-End.ensures in
+    let e = sym (rw c.in-Ok-Some.field-0-is at c.in-Ok-Some.ensures) in
+    (runs_end k.0 _ _ (runs_full k.0 c.if-most-n.true) (sym (ap (code_at _) e)), k.1)
+
+pub returns-in-Ok-None : goal.returns-in-Ok-None
+unfolding found code_at
+returns-in-Ok-None c =
+    let k = c.loop-call.invariant in
+    let e = sym (rw c.in-Ok-None.field-0-is at c.in-Ok-None.ensures) in
     (runs_end k.0 _ _ (calls_nothing _ _ _ e) (sym (ap (code_at _) e)), k.1)
 
-pub returns-then-last : goal.returns-then-last
+pub returns-in-Err-CutShort : goal.returns-in-Err-CutShort
 unfolding found code_at pick
-returns-then-last c =
+returns-in-Err-CutShort c =
     let k = c.loop-call.invariant in
-    let e = sym c.in-CutShort.ensures in
+    let e = sym (rw c.in-Err-CutShort.field-0-is at c.in-Err-CutShort.ensures) in
     (runs_end k.0 _ _ (calls_broken _ _ _ 17 e) (sym (ap (code_at _) e ∙ pick_true _ _ _ c.if-last.true)), k.1)
 
-pub returns-in-CutShort : goal.returns-in-CutShort
+pub returns-in-Err-CutShort-2 : goal.returns-in-Err-CutShort-2
 unfolding found code_at pick
-returns-in-CutShort c =
+returns-in-Err-CutShort-2 c =
     let k = c.loop-call.invariant in
-    let e = sym c.in-CutShort.ensures in
+    let e = sym (rw c.in-Err-CutShort.field-0-is at c.in-Err-CutShort.ensures) in
     (runs_end k.0 _ _ (calls_broken _ _ _ 17 e) (sym (ap (code_at _) e ∙ pick_false _ _ _ c.if-last.false)), k.1)
 
-pub returns-in-Malformed : goal.returns-in-Malformed
+pub returns-in-Err-Malformed : goal.returns-in-Err-Malformed
 unfolding found code_at pick
-returns-in-Malformed c =
+returns-in-Err-Malformed c =
     let k = c.loop-call.invariant in
-    let e = sym c.in-Malformed.ensures in
+    let e = sym (rw c.in-Err-Malformed.field-0-is at c.in-Err-Malformed.ensures) in
     (runs_end k.0 _ _ (calls_broken _ _ _ 18 e) (sym (ap (code_at _) e)), k.1)

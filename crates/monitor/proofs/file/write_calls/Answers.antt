@@ -1,5 +1,6 @@
 -- `monitor::file::write_calls` meets its contract.
 use mathlib.Core.Path.{◌∙◌}
+use Rattle.std.proofs.lemmas.Result.{err_from_is_err_and}
 use Rattle.number.specs.Answers.{encoded}
 use Rattle.monitor.specs.File.{file_written}
 use Rattle.monitor.proofs.FileTrip.{unfinished_answer, unfinished_buffer, finished_answer, finished_buffer}
@@ -12,21 +13,22 @@ returns-then-calls-ne0 c = record {
   bytes = unfinished_buffer _ _ _ c.if-calls-ne0.true;
 }
 
-pub returns-in-Next : goal.returns-in-Next
+pub returns-in_err-encode_all : goal.returns-in_err-encode_all
 unfolding file_written encoded
-returns-in-Next c =
+returns-in_err-encode_all c =
     let h = c.if-calls-ne0.false in
-    let e = c.in-Next.ensures in
+    let e = c.in_err-encode_all.ensures in
+    let p = err_from_is_err_and c.from_residual.result c.from_residual.ensures.1 in
     record {
-      answer = e.answer ∙ finished_answer _ _ _ h;
+      answer = rw (p.1, p.2) (e.answer ∙ finished_answer _ _ _ h);
       bytes = e.bytes ∙ finished_buffer _ _ _ h;
     }
 
-pub returns-in-NoRoom : goal.returns-in-NoRoom
+pub returns : goal.returns
 unfolding file_written encoded
-returns-in-NoRoom c =
+returns c =
     let h = c.if-calls-ne0.false in
-    let e = c.in-NoRoom.ensures in
+    let e = c.in_ok-encode_all.ensures in
     record {
       answer = e.answer ∙ finished_answer _ _ _ h;
       bytes = e.bytes ∙ finished_buffer _ _ _ h;
