@@ -26,7 +26,17 @@ pub fn read_call(input: &[u8], place: usize) -> Result<Option<(Call, usize)>, Re
         (*value, at) = number::decode(input, at)?;
     }
     let [clock, party, kind, a, b, c] = values;
-    Ok(Some((Call { clock, party, kind, a, b, c }, at)))
+    Ok(Some((
+        Call {
+            clock,
+            party,
+            kind,
+            a,
+            b,
+            c,
+        },
+        at,
+    )))
 }
 
 // What a drill file tells, beside its answers and the record: its code, how many calls were run, and the place after them.
@@ -62,8 +72,8 @@ fn run_calls(s: &mut [u32; WORDS], input: &[u8], last: bool, answers: &mut [i64]
                 if most <= n {
                     break codes::FILE_RUN;
                 }
-                let r = call_on(&mut *s, call);
-                put(&mut *answers, n * 6, r);
+                let r = call_on(s, call);
+                put(answers, n * 6, r);
                 at = next;
                 n += 1;
             }
@@ -91,22 +101,21 @@ pub(crate) fn piece_on(
     ensures { (passed (view s.new) result.code result.calls result.used answers.new
         ≡ piece_of (view s.old) input.now last answers.old) × (length s.new ≡ words) }
 {
-    let ok = is_sound_in(&*s);
-    if !ok {
+    if !is_sound_in(s) {
         return Passed {
             code: codes::UNSOUND,
             calls: 0,
             used: 0,
         };
     }
-    run_calls(&mut *s, input, last, &mut *answers)
+    run_calls(s, input, last, answers)
 }
 
 // A piece of a file.
 pub fn run_piece(mut m: Store, input: &[u8], last: bool, answers: &mut [i64]) -> FileRan
     ensures { passed (view result.store.words) result.code result.calls result.used answers.new ≡ piece_of (view m.words) input.now last answers.old }
 {
-    let r = piece_on(&mut m.words, input, last, &mut *answers);
+    let r = piece_on(&mut m.words, input, last, answers);
     FileRan {
         store: m,
         code: r.code,
@@ -148,14 +157,14 @@ pub(crate) fn file_on(s: &mut [u32; WORDS], input: &[u8], answers: &mut [i64]) -
             used: 0,
         };
     }
-    piece_on(&mut *s, input, true, &mut *answers)
+    piece_on(s, input, true, answers)
 }
 
 // A whole file.
 pub fn run_file(mut m: Store, input: &[u8], answers: &mut [i64]) -> FileRan
     ensures { passed (view result.store.words) result.code result.calls result.used answers.new ≡ file_of (view m.words) input.now answers.old }
 {
-    let r = file_on(&mut m.words, input, &mut *answers);
+    let r = file_on(&mut m.words, input, answers);
     FileRan {
         store: m,
         code: r.code,

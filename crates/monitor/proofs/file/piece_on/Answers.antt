@@ -4,18 +4,18 @@ use Rattle.monitor.specs.File.{piece_of}
 use Rattle.monitor.proofs.Calls.{piece_sound}
 use Rattle.monitor.proofs.file.piece_on.Goals as goal
 
-pub returns-then-not-ok : goal.returns-then-not-ok
+pub returns-then-not-is_sound_in : goal.returns-then-not-is_sound_in
 unfolding piece_of
-returns-then-not-ok c =
-    (sym (pick_false _ _ _ (sym c.is_sound_in-ok.ensures ∙ c.if-not-ok.true)), c.requires)
+returns-then-not-is_sound_in c =
+    (sym (pick_false _ _ _ (sym c.is_sound_in.ensures ∙ c.if-not-is_sound_in.true)), c.requires)
 
 pub run_calls-requires : goal.run_calls-requires
 run_calls-requires c =
-    (sym c.is_sound_in-ok.ensures ∙ c.if-not-ok.false, c.requires)
+    (sym c.is_sound_in.ensures ∙ c.if-not-is_sound_in.false, c.requires)
 
 pub returns : goal.returns
 returns c =
     let a = c.args in
     let r = c.run_calls.ensures in
-    let fine = sym c.is_sound_in-ok.ensures ∙ c.if-not-ok.false in
+    let fine = sym c.is_sound_in.ensures ∙ c.if-not-is_sound_in.false in
     (piece_sound (view a.s.now) a.input.now a.last a.answers.now fine _ r.0, r.1)
