@@ -7,17 +7,14 @@ mod text;
 ghost use Rattle.std.specs.Prelude.{true, ◌≡◌, ◌≤◌, ◌<◌, length};
 
 use drill_io::{State, Waiting};
-use monitor::Found;
+use number::ReadError;
 use std::io::Read;
 
 // Is there a whole call at the front, or a bad number?
 fn is_ready(waiting: &[u8]) -> bool {
-    let found = monitor::read_call(waiting, 0);
-    match found {
-        Found::Whole(_, _) => true,
-        Found::End => false,
-        Found::CutShort => false,
-        Found::Malformed => true,
+    match monitor::read_call(waiting, 0) {
+        Ok(Some(_)) | Err(ReadError::Malformed) => true,
+        Ok(None) | Err(ReadError::CutShort) => false,
     }
 }
 
@@ -57,7 +54,7 @@ fn turn<R: Read, P: Print, E: Print>(
     }
     let count = waiting.count;
     let ended = waiting.ended;
-    let found = monitor::read_call(&input[0..count], 0);
+    let found = monitor::read_call(&input[..count], 0).ok().flatten();
     let mut answers = [0i64; 6];
     let mut lines = [0u8; 154];
     let turned = listing::list_turn(before, &mut *input, count, ended, &mut answers, &mut lines);

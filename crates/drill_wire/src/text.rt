@@ -1,7 +1,6 @@
 // A turn's text, and the bytes that are sent for its call.
 ghost use Rattle.std.specs.Prelude.{◌≤◌, length};
 
-use monitor::Found;
 use rules::{Answer, Call};
 
 // The number in an answer place. All but the code are of 32 bits.
@@ -64,8 +63,8 @@ fn write_with<P: Print>(out: &P, text: &[u8], sent: &[u8]) -> bool {
 
 // Writes the text of a turn that found this at its front, the answer in these places, and tells whether all of it was written. A sequence takes at most
 // 11 bytes.
-pub fn write_lines<P: Print>(out: &P, text: &[u8], found: Found, places: &[i64; 6]) -> bool {
-    let Found::Whole(call, _) = found else {
+pub fn write_lines<P: Print>(out: &P, text: &[u8], found: Option<(Call, usize)>, places: &[i64; 6]) -> bool {
+    let Some((call, _)) = found else {
         return out.write_all(text).is_ok();
     };
     let mut buffer = [0u8; 11];

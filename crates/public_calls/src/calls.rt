@@ -3,7 +3,8 @@ ghost use Rattle.std.specs.Prelude.{◌<◌};
 
 use super::show::{bytes, number, text};
 use super::stored::load;
-use monitor::{Found, Written};
+use monitor::WriteError;
+use number::ReadError;
 use rules::Call;
 use std::io;
 
@@ -28,22 +29,21 @@ fn show_read(rt: &impl Print, name: &[u8], input: &[u8], place: usize) -> io::Re
     text(rt, b" at ")?;
     number(rt, place as u64)?;
     text(rt, b": ")?;
-    let found = monitor::read_call(input, place);
-    match found {
-        Found::Whole(call, next) => {
+    match monitor::read_call(input, place) {
+        Ok(Some((call, next))) => {
             show_call(rt, call)?;
             text(rt, b", next ")?;
             number(rt, next as u64)?;
             text(rt, b"\n")?;
             return Ok(next);
         }
-        Found::End => {
+        Ok(None) => {
             text(rt, b"end\n")?;
         }
-        Found::CutShort => {
+        Err(ReadError::CutShort) => {
             text(rt, b"17\n")?;
         }
-        Found::Malformed => {
+        Err(ReadError::Malformed) => {
             text(rt, b"18\n")?;
         }
     }
@@ -89,8 +89,7 @@ pub fn numbers(input: &[u8], list: &mut [u32; 234]) {
     let mut at = 0;
     let mut call = 0;
     while call < 39 {
-        let found = monitor::read_call(input, at);
-        let Found::Whole(found_call, next) = found else {
+        let Ok(Some((found_call, next))) = monitor::read_call(input, at) else {
             return;
         };
         put(&mut *list, call * 6, found_call);
@@ -108,16 +107,15 @@ fn show_write(rt: &impl Print, list: &[u32], place: usize, buffer: &mut [u8]) ->
     text(rt, b" in ")?;
     number(rt, buffer.len() as u64)?;
     text(rt, b" bytes: ")?;
-    let written = monitor::write_calls(&mut *buffer, place, list);
-    match written {
-        Written::Next(next) => {
+    match monitor::write_calls(&mut *buffer, place, list) {
+        Ok(next) => {
             text(rt, b"next ")?;
             number(rt, next as u64)?;
         }
-        Written::NoRoom => {
+        Err(WriteError::NoRoom) => {
             text(rt, b"16")?;
         }
-        Written::Unfinished => {
+        Err(WriteError::Unfinished) => {
             text(rt, b"17")?;
         }
     }
