@@ -1,21 +1,24 @@
--- Laws of two lists that are compared place by place, as a loop over the places asks them.
+-- Two lists that are alike place by place.
 -- Assumes nothing.
-use mathlib.Core.Path.{◌≡◌, ap₂, ◌∙◌}
+use mathlib.Core.Path.{◌≡◌, refl, ap, ◌∙◌, sym}
 use mathlib.Core.List.{List, [], ◌∷◌}
-use mathlib.Core.Bool.{Bool, true, false}
+use mathlib.Core.Bool.{Bool, true, false, ◌&&◌}
+use Prim.Native.Nat.{ℕ}
+use lib.Dec.{eqb}
+use lib.Pointwise.{pointwise}
+use borrow.Author.Tests.{eq-eqb}
+use Rattle.rules.specs.Choice.{same}
 use Rattle.rules.specs.Equal.{all_same}
-use Rattle.rules.proofs.Logic.{pick_true, pick_false}
+use Rattle.rules.proofs.Logic.{pick_and}
 
-module _ {A : Type 0} (f : A → A → Bool) (s t : List A) where
-  pub alike_done : s ≡ [] → t ≡ [] → all_same f s t ≡ true
-  unfolding all_same
-  alike_done p q = ap₂ (all_same f) p q
+-- as the derived equality asks it
+pub same_pointwise : (xs ys : List ℕ) → all_same same xs ys ≡ pointwise eqb xs ys
+unfolding all_same same
+same_pointwise [] [] = refl
+same_pointwise [] (y ∷ ys) = refl
+same_pointwise (x ∷ xs) [] = refl
+same_pointwise (x ∷ xs) (y ∷ ys) = pick_and (same x y) (all_same same xs ys) ∙ ap (λ b. eqb x y && b) (same_pointwise xs ys)
 
-  module _ (x y : A) (r u : List A) (p : s ≡ x ∷ r) (q : t ≡ y ∷ u) where
-    pub alike_more : f x y ≡ true → all_same f s t ≡ all_same f r u
-    unfolding all_same
-    alike_more e = ap₂ (all_same f) p q ∙ pick_true _ _ _ e
-
-    pub alike_not : f x y ≡ false → all_same f s t ≡ false
-    unfolding all_same
-    alike_not e = ap₂ (all_same f) p q ∙ pick_false _ _ _ e
+pub pointwise_refl : (xs : List ℕ) → pointwise eqb xs xs ≡ true
+pointwise_refl [] = refl
+pointwise_refl (x ∷ xs) = rw (eq-eqb x x refl) (pointwise_refl xs)

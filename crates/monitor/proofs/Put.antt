@@ -11,7 +11,7 @@ use Rattle.rules.specs.declared.Party.{Party}
 use Rattle.rules.specs.declared.Link.{Link}
 use Rattle.rules.specs.declared.Monitor.{Monitor}
 use Rattle.rules.specs.Record.{with_unread, with_reports, with_rights, offering, owning, with_clock, with_last_link, with_last_tx, with_party, with_count, replaced}
-use Rattle.monitor.specs.Words.{head_size, party_size, link_size, party_base, link_base, words, link_words, party_words, stored_from, stored}
+use Rattle.monitor.specs.Words.{head_size, party_size, link_size, party_base, link_base, words, link_words, low, high, party_words, stored_from, stored}
 use Rattle.monitor.specs.View.{link_at, party_at, links_from, parties_from, view}
 
 -- ---- a run of stores: what stands before it, past it and in it
@@ -228,14 +228,12 @@ module _ (xs : List ℕ) (i : ℕ) (l : Link) (n : length xs ≡ words) (h : i <
   put_link_law r e = (ap view e ∙ link_stored, ap length e ∙ stored_long (link_words l) xs (link_base i) ∙ n)
 
 -- ---- a party
-pub whole : (x a b : ℕ) → a ≡ x % 4294967296 → b ≡ x / 4294967296 → a + b * 4294967296 ≡ x
-whole x a b e f = let d = div-add-mod' x 4294967296 in omega (arith, e, f)
+halves : (x : ℕ) → low x + high x * 4294967296 ≡ x
+halves x = let d = div-add-mod' x 4294967296 in omega arith
 
-module _ (xs : List ℕ) (p : ℕ) (q : Party) (sl sh dl dh rl rh al ah : ℕ) (n : length xs ≡ words) (h : p < 16)
-    (s : sl + sh * 4294967296 ≡ q.services) (d : dl + dh * 4294967296 ≡ q.deadline)
-    (r : rl + rh * 4294967296 ≡ q.mayrequest) (a : al + ah * 4294967296 ≡ q.mayadvertise) (u : length q.reports ≡ 4) where
+module _ (xs : List ℕ) (p : ℕ) (q : Party) (n : length xs ≡ words) (h : p < 16) (u : length q.reports ≡ 4) where
   abbrev ws : List ℕ
-  ws = party_words q sl sh dl dh rl rh al ah
+  ws = party_words q
 
   abbrev zs : List ℕ
   zs = stored xs (party_base p) ws
@@ -244,7 +242,8 @@ module _ (xs : List ℕ) (p : ℕ) (q : Party) (sl sh dl dh rl rh al ah : ℕ) (
   unfolding party_from
   party_there =
       let f = four q.reports u in
-      party_made zs p ∙ ap party_from (stored_words ws xs (party_base p) (omega arith)) ∙ (λ z. with_rights (with_reports (offering (owning q q.owned (d z)) (s z)) (f z)) (r z) (a z))
+      party_made zs p ∙ ap party_from (stored_words ws xs (party_base p) (omega arith))
+      ∙ (λ z. with_rights (with_reports (offering (owning q q.owned (halves q.deadline z)) (halves q.services z)) (f z)) (halves q.mayrequest z) (halves q.mayadvertise z))
 
   party_stored : view zs ≡ with_party (view xs) p q
   unfolding words_from head_from
@@ -257,8 +256,8 @@ module _ (xs : List ℕ) (p : ℕ) (q : Party) (sl sh dl dh rl rh al ah : ℕ) (
       let ls = links_alike zs xs 32 0 (λ k a b. past ws xs (party_base p) words k (omega arith) (omega arith)) in
       λ z. head_from (hs z) (ps z) (ls z)
 
-  pub put_party_law : (ys : List ℕ) → ys ≡ stored xs (party_base p) (party_words q sl sh dl dh rl rh al ah) → (view ys ≡ with_party (view xs) p q) × (length ys ≡ words)
-  put_party_law ys e = (ap view e ∙ party_stored, ap length e ∙ stored_long ws xs (party_base p) ∙ n)
+  pub put_party_law : (r : List ℕ) → r ≡ stored xs (party_base p) (party_words q) → (view r ≡ with_party (view xs) p q) × (length r ≡ words)
+  put_party_law r e = (ap view e ∙ party_stored, ap length e ∙ stored_long ws xs (party_base p) ∙ n)
 
 -- ---- a number of the head
 -- a number stored at a place of a run

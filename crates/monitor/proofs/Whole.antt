@@ -11,7 +11,7 @@ use lib.ListN.{length, get_or}
 use Rattle.rules.specs.declared.Party.{Party}
 use Rattle.rules.specs.declared.Monitor.{Monitor}
 use Rattle.rules.specs.Record.{fresh_party, fresh_link}
-use Rattle.monitor.specs.Words.{head_size, party_size, link_size, party_base, link_base, words, link_words, party_words}
+use Rattle.monitor.specs.Words.{head_size, party_size, link_size, party_base, link_base, words, link_words, low, high, party_words}
 use Rattle.monitor.specs.View.{WordsOf, link_at, party_at, view}
 use Rattle.monitor.proofs.Laws.{links_at, parties_at}
 use Rattle.monitor.proofs.Put.{words_from, words_at}
@@ -53,17 +53,13 @@ unfolding link_at words_at words_from
 link_words_lem xs i = refl
 
 -- a party's numbers, of the party
-abbrev all_words : Party → List ℕ
-all_words q = party_words q (q.services % 4294967296) (q.services / 4294967296) (q.deadline % 4294967296) (q.deadline / 4294967296)
-    (q.mayrequest % 4294967296) (q.mayrequest / 4294967296) (q.mayadvertise % 4294967296) (q.mayadvertise / 4294967296)
+low_lem : (a b : ℕ) → a < 4294967296 → low (a + b * 4294967296) ≡ a
+low_lem a b h = omega arith
 
-low : (a b : ℕ) → a < 4294967296 → (a + b * 4294967296) % 4294967296 ≡ a
-low a b h = omega arith
+high_lem : (a b : ℕ) → a < 4294967296 → high (a + b * 4294967296) ≡ b
+high_lem a b h = omega arith
 
-high : (a b : ℕ) → a < 4294967296 → (a + b * 4294967296) / 4294967296 ≡ b
-high a b h = omega arith
-
-party_words_lem : (xs : List ℕ) → WordsOf xs → (p : ℕ) → p < 16 → all_words (party_at xs p) ≡ words_at xs (party_base p) party_size
+party_words_lem : (xs : List ℕ) → WordsOf xs → (p : ℕ) → p < 16 → party_words (party_at xs p) ≡ words_at xs (party_base p) party_size
 unfolding party_at words_at words_from
 party_words_lem xs a p h =
     let s = a.small (party_base p + 3) (omega arith) in
@@ -74,8 +70,10 @@ party_words_lem xs a p h =
     let deadline = get_or xs (party_base p + 7) 0 in
     let mayrequest = get_or xs (party_base p + 15) 0 in
     let mayadvertise = get_or xs (party_base p + 17) 0 in
-    λ z. party_words (party_at xs p) (low _ services s z) (high _ services s z) (low _ deadline d z) (high _ deadline d z)
-    (low _ mayrequest r z) (high _ mayrequest r z) (low _ mayadvertise o z) (high _ mayadvertise o z)
+    let q = party_at xs p in
+    λ z. q.opened ∷ q.control ∷ q.timeout ∷ low_lem _ services s z ∷ high_lem _ services s z ∷ q.owned ∷ low_lem _ deadline d z ∷ high_lem _ deadline d z
+    ∷ q.rollbackonly ∷ q.served ∷ get_or q.reports 0 0 ∷ get_or q.reports 1 0 ∷ get_or q.reports 2 0 ∷ get_or q.reports 3 0
+    ∷ low_lem _ mayrequest r z ∷ high_lem _ mayrequest r z ∷ low_lem _ mayadvertise o z ∷ high_lem _ mayadvertise o z ∷ []
 
 module _ (xs ys : List ℕ) (a : WordsOf xs) (b : WordsOf ys) (e : view xs ≡ view ys) where
   same_link_lem : (i : ℕ) → i < 32 → link_at xs i ≡ link_at ys i
@@ -101,7 +99,7 @@ module _ (xs ys : List ℕ) (a : WordsOf xs) (b : WordsOf ys) (e : view xs ≡ v
       let p : ℕ = (k - head_size) / party_size in
       let f : ℕ = (k - head_size) % party_size in
       let d : k ≡ party_base p + f = omega arith in
-      let ws = sym (party_words_lem xs a p (omega arith)) ∙ ap all_words (same_party_lem p (omega arith)) ∙ party_words_lem ys b p (omega arith) in
+      let ws = sym (party_words_lem xs a p (omega arith)) ∙ ap party_words (same_party_lem p (omega arith)) ∙ party_words_lem ys b p (omega arith) in
       ap (λ (j : ℕ). get_or xs j 0) d ∙ words_alike xs ys (party_base p) party_size f (omega arith) ws ∙ ap (λ (j : ℕ). get_or ys j 0) (sym d)
 
   in_links : (k : ℕ) → link_base 0 ≤ k → k < words → get_or xs k 0 ≡ get_or ys k 0

@@ -12,7 +12,7 @@ use Rattle.rules.specs.Choice.{pick, same}
 use Rattle.rules.specs.Codes.{tp_accepted}
 use Rattle.rules.specs.Record.{fresh_link, blanks, live, with_links, replaced}
 use Rattle.rules.specs.Transaction.{owner_of}
-use Rattle.monitor.specs.Words.{words, read_link, read_services, read_deadline, read_reports, read_may_request, read_may_advertise, read_party}
+use Rattle.monitor.specs.Words.{words, read_link, read_party}
 use Rattle.monitor.specs.declared.Told.{Told}
 
 -- the words of any record: as many as there are places, and each of 32 bits
@@ -25,7 +25,7 @@ unfoldable pub link_at : List ℕ → ℕ → Link
 link_at xs i = read_link xs i
 
 unfoldable pub party_at : List ℕ → ℕ → Party
-party_at xs p = read_party xs p (read_services xs p) (read_deadline xs p) (read_reports xs p) (read_may_request xs p) (read_may_advertise xs p)
+party_at xs p = read_party xs p
 
 -- n of them, from the place i on
 unfoldable pub links_from : ℕ → ℕ → List ℕ → List Link

@@ -1,6 +1,6 @@
 -- The record's words: how many there are, where each party and each link has its own, and what the code reads and stores of one.
 -- Assumes nothing.
-use Rattle.std.specs.Prelude.{ℕ, ◌+◌, ◌*◌, List, [], ◌∷◌, get_or, set}
+use Rattle.std.specs.Prelude.{ℕ, ◌+◌, ◌*◌, ◌/◌, ◌%◌, List, [], ◌∷◌, get_or, set}
 use Rattle.rules.specs.declared.Party.{Party}
 use Rattle.rules.specs.declared.Link.{Link}
 
@@ -47,37 +47,24 @@ read_link xs i =
       filled = get_or xs (link_base i + 18) 0;
     }
 
--- a number of 64 bits stands in two words, the low half first
-abbrev pub read_services : List ℕ → ℕ → ℕ
-read_services xs p = get_or xs (party_base p + 3) 0 + get_or xs (party_base p + 4) 0 * 4294967296
+-- the number of 64 bits in two words of the party p, from its place k on, the low half first
+abbrev pub read_long : List ℕ → ℕ → ℕ → ℕ
+read_long xs p k = get_or xs (party_base p + k) 0 + get_or xs (party_base p + (k + 1)) 0 * 4294967296
 
-abbrev pub read_deadline : List ℕ → ℕ → ℕ
-read_deadline xs p = get_or xs (party_base p + 6) 0 + get_or xs (party_base p + 7) 0 * 4294967296
-
-abbrev pub read_reports : List ℕ → ℕ → List ℕ
-read_reports xs p = get_or xs (party_base p + 10) 0 ∷ get_or xs (party_base p + 11) 0 ∷ get_or xs (party_base p + 12) 0 ∷ get_or xs (party_base p + 13) 0 ∷ []
-
-abbrev pub read_may_request : List ℕ → ℕ → ℕ
-read_may_request xs p = get_or xs (party_base p + 14) 0 + get_or xs (party_base p + 15) 0 * 4294967296
-
-abbrev pub read_may_advertise : List ℕ → ℕ → ℕ
-read_may_advertise xs p = get_or xs (party_base p + 16) 0 + get_or xs (party_base p + 17) 0 * 4294967296
-
--- the party p, with its numbers of 64 bits and its reports
-abbrev pub read_party : List ℕ → ℕ → ℕ → ℕ → List ℕ → ℕ → ℕ → Party
-read_party xs p services deadline reports mayrequest mayadvertise =
+abbrev pub read_party : List ℕ → ℕ → Party
+read_party xs p =
     record {
       opened = get_or xs (party_base p) 0;
       control = get_or xs (party_base p + 1) 0;
       timeout = get_or xs (party_base p + 2) 0;
-      services = services;
+      services = read_long xs p 3;
       owned = get_or xs (party_base p + 5) 0;
-      deadline = deadline;
+      deadline = read_long xs p 6;
       rollbackonly = get_or xs (party_base p + 8) 0;
       served = get_or xs (party_base p + 9) 0;
-      reports = reports;
-      mayrequest = mayrequest;
-      mayadvertise = mayadvertise;
+      reports = get_or xs (party_base p + 10) 0 ∷ get_or xs (party_base p + 11) 0 ∷ get_or xs (party_base p + 12) 0 ∷ get_or xs (party_base p + 13) 0 ∷ [];
+      mayrequest = read_long xs p 14;
+      mayadvertise = read_long xs p 16;
     }
 
 -- ---- stored
@@ -87,11 +74,18 @@ link_words l =
     ∷ l.sender ∷ l.granting ∷ l.disconnected
     ∷ get_or l.unread 0 0 ∷ get_or l.unread 1 0 ∷ get_or l.unread 2 0 ∷ get_or l.unread 3 0 ∷ l.filled ∷ []
 
--- of a party, whose services, deadline and rights are given by their halves
-abbrev pub party_words : Party → (sl sh dl dh rl rh al ah : ℕ) → List ℕ
-party_words q sl sh dl dh rl rh al ah =
-    q.opened ∷ q.control ∷ q.timeout ∷ sl ∷ sh ∷ q.owned ∷ dl ∷ dh ∷ q.rollbackonly ∷ q.served
-    ∷ get_or q.reports 0 0 ∷ get_or q.reports 1 0 ∷ get_or q.reports 2 0 ∷ get_or q.reports 3 0 ∷ rl ∷ rh ∷ al ∷ ah ∷ []
+-- the halves of a number of 64 bits
+abbrev pub low : ℕ → ℕ
+low x = x % 4294967296
+
+abbrev pub high : ℕ → ℕ
+high x = x / 4294967296
+
+abbrev pub party_words : Party → List ℕ
+party_words q =
+    q.opened ∷ q.control ∷ q.timeout ∷ low q.services ∷ high q.services ∷ q.owned ∷ low q.deadline ∷ high q.deadline ∷ q.rollbackonly ∷ q.served
+    ∷ get_or q.reports 0 0 ∷ get_or q.reports 1 0 ∷ get_or q.reports 2 0 ∷ get_or q.reports 3 0
+    ∷ low q.mayrequest ∷ high q.mayrequest ∷ low q.mayadvertise ∷ high q.mayadvertise ∷ []
 
 -- the numbers vs at the places from at + k on
 abbrev pub stored_from : List ℕ → ℕ → ℕ → List ℕ → List ℕ

@@ -13,13 +13,17 @@ use rules::{Party, codes};
 pub(crate) fn grant(q: Party, a: u32, set: u64) -> Party
     ensures { result ≡ granted q a set }
 {
-    let mut r = q;
     if a % 2 == 1 {
-        r.mayadvertise = set;
-        return r;
+        Party {
+            mayadvertise: set,
+            ..q
+        }
+    } else {
+        Party {
+            mayrequest: set,
+            ..q
+        }
     }
-    r.mayrequest = set;
-    r
 }
 
 // Kind 23.
@@ -33,10 +37,8 @@ pub(crate) fn set_rights(s: &mut [u32; WORDS], p: usize, a: u32, b: u32, c: u32)
     if a >= 32 {
         return coded(codes::BAD_ARGUMENT);
     }
-    let set = long(b, c);
     let i = (a / 2) as usize;
-    let before = party_at(&*s, i);
-    let after = grant(before, a, set);
-    put_party(&mut *s, i, after);
+    let q = grant(party_at(&*s, i), a, long(b, c));
+    put_party(&mut *s, i, q);
     accept(0)
 }

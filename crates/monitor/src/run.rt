@@ -16,13 +16,16 @@ pub(crate) fn call_at(calls: &[u32], at: usize) -> Call
     requires { at + 6 ≤ length calls.now }
     ensures { result ≡ call_at (drop at calls.now) }
 {
+    let &[clock, party, kind, a, b, c] = &calls[at..at + 6] else {
+        unreachable!()
+    };
     Call {
-        clock: calls[at],
-        party: calls[at + 1],
-        kind: calls[at + 2],
-        a: calls[at + 3],
-        b: calls[at + 4],
-        c: calls[at + 5],
+        clock,
+        party,
+        kind,
+        a,
+        b,
+        c,
     }
 }
 
@@ -31,13 +34,12 @@ pub(crate) fn put(out: &mut [i64], at: usize, r: Answer)
     requires { at + 6 ≤ length out.old }
     ensures { out.new ≡ take at out.old ++ places_of r ++ drop (at + 6) out.old }
 {
-    let code = r.code;
-    out[at] = code;
-    out[at + 1] = r.value as i64;
-    out[at + 2] = r.event as i64;
-    out[at + 3] = r.token as i64;
-    out[at + 4] = r.service as i64;
-    out[at + 5] = r.tx as i64;
+    out[at] = r.code;
+    out[at + 1] = i64::from(r.value);
+    out[at + 2] = i64::from(r.event);
+    out[at + 3] = i64::from(r.token);
+    out[at + 4] = i64::from(r.service);
+    out[at + 5] = i64::from(r.tx);
 }
 
 // n calls, one after the other.
@@ -46,13 +48,11 @@ pub(crate) fn run(s: &mut [u32; WORDS], calls: &[u32], out: &mut [i64], n: usize
     ensures { (view s.new ≡ ran_of n (view s.old) calls.now)
         × (out.new ≡ answers_of n (view s.old) calls.now ++ drop (n * 6) out.old) × (length s.new ≡ words) }
 {
-    let mut i = 0;
-    while i < n {
+    for i in 0..n {
         let at = i * 6;
         let call = call_at(calls, at);
         let r = call_on(&mut *s, call);
         put(&mut *out, at, r);
-        i += 1;
     }
 }
 
@@ -67,8 +67,7 @@ pub(crate) fn run_on(s: &mut [u32; WORDS], calls: &[u32], answers: &mut [i64]) -
     if answers.len() < calls.len() {
         return codes::TOO_LITTLE_ROOM;
     }
-    let ok = is_sound_in(&*s);
-    if !ok {
+    if !is_sound_in(&*s) {
         return codes::UNSOUND;
     }
     let n = calls.len() / 6;

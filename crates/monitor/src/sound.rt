@@ -11,35 +11,35 @@ use rules::{Link, Monitor, Party, codes};
 pub(crate) fn link_good(l: Link) -> bool
     ensures { result ≡ link_good l }
 {
-    (l.kind <= 1)
-        & ((l.originator <= 15)
-            & ((l.attached <= 1)
-                & ((l.state <= 2)
-                    & ((l.server <= 15)
-                        & (((l.outcome == 0)
-                            | ((l.outcome == codes::TPEV_SVCERR)
-                                | ((l.outcome == codes::TPEV_SVCFAIL)
-                                    | (l.outcome == codes::TPEV_SVCSUCC))))
-                            & ((l.sender <= 1)
-                                & ((l.granting <= 1)
-                                    & ((l.disconnected <= 2)
-                                        & ((l.filled <= Link::UNREAD)
-                                            & !((l.state == 2) & (l.outcome == 0)))))))))))
+    let listed = matches!(
+        l.outcome,
+        0 | codes::TPEV_SVCERR | codes::TPEV_SVCFAIL | codes::TPEV_SVCSUCC
+    );
+    let returned_with_none = l.state == 2 && l.outcome == 0;
+    l.kind <= 1
+        && l.originator <= 15
+        && l.attached <= 1
+        && l.state <= 2
+        && l.server <= 15
+        && listed
+        && l.sender <= 1
+        && l.granting <= 1
+        && l.disconnected <= 2
+        && l.filled <= Link::UNREAD
+        && !returned_with_none
 }
 
-// Four numbers, and none above 14.
+// None is above 14.
 pub(crate) fn reports_good(r: [u32; 4]) -> bool
     ensures { result ≡ reports_good r }
 {
-    (r[0] <= 14) & ((r[1] <= 14) & ((r[2] <= 14) & (r[3] <= 14)))
+    r.iter().all(|&x| x <= 14)
 }
 
 pub(crate) fn choices_good(q: Party) -> bool
     ensures { result ≡ choices_good q }
 {
-    let r = q.reports;
-    let good = reports_good(r);
-    (q.opened <= 1) & ((q.control <= 1) & ((q.rollbackonly <= 1) & good))
+    q.opened <= 1 && q.control <= 1 && q.rollbackonly <= 1 && reports_good(q.reports)
 }
 
 // Are the links good? Then found has for each party the number that it serves, where such a link works for it, and else 0.
@@ -47,27 +47,22 @@ pub(crate) fn links_found(s: &[u32; WORDS], found: &mut [u32; 16]) -> bool
     requires { ((view s.now).count ≤ 32) × (found.old ≡ replicate 16 0) }
     ensures { (result ≡ links_good (view s.now).lastlink 0 (live (view s.now))) × (result ≡ true → FoundAll (view s.now) found.new) }
 {
-    let len = count(s);
-    let mut prev: u32 = 0;
-    let mut i = 0;
-    while i < len {
+    let mut prev = 0;
+    for i in 0..count(s) {
         let l = link_at(s, i);
-        let g = link_good(l);
-        let ok = (prev < l.number) & g;
+        let good = link_good(l);
+        let ok = prev < l.number && good;
         if !ok {
             return false;
         }
         let p = l.server as usize;
         let served = served_at(s, p);
-        let works = (l.state == 1) & (l.number == served);
-        if works {
+        if l.state == 1 && l.number == served {
             found[p] = l.number;
         }
         prev = l.number;
-        i += 1;
     }
-    let last = last_link(s);
-    prev <= last
+    prev <= last_link(s)
 }
 
 // Does each party serve what was found for it?
@@ -75,16 +70,12 @@ pub(crate) fn parties_found(s: &[u32; WORDS], found: &[u32; 16]) -> bool
     requires { (links_good (view s.now).lastlink 0 (live (view s.now)) ≡ true) × FoundAll (view s.now) found.now }
     ensures { result ≡ parties_good (view s.now) 0 (view s.now).parties }
 {
-    let mut p = 0;
-    while p < Monitor::PARTIES {
+    for p in 0..Monitor::PARTIES {
         let q = party_at(s, p);
-        let g = choices_good(q);
-        let d = found[p];
-        let ok = g & (q.served == d);
+        let ok = choices_good(q) && q.served == found[p];
         if !ok {
             return false;
         }
-        p += 1;
     }
     true
 }
@@ -92,19 +83,12 @@ pub(crate) fn parties_found(s: &[u32; WORDS], found: &[u32; 16]) -> bool
 pub(crate) fn is_sound_in(s: &[u32; WORDS]) -> bool
     ensures { result ≡ sound (view s.now) }
 {
-    let len = count(s);
-    if len > Monitor::LINKS {
-        return false;
-    }
-    let mut found = [0u32; 16];
-    let links = links_found(s, &mut found);
-    if !links {
-        return false;
-    }
-    let parties = parties_found(s, &found);
-    let last = last_link(s);
-    let tx = last_tx(s);
-    (last <= Monitor::NUMBERS) & ((tx <= Monitor::NUMBERS) & parties)
+    let mut found = [0; 16];
+    count(s) <= Monitor::LINKS
+        && last_link(s) <= Monitor::NUMBERS
+        && last_tx(s) <= Monitor::NUMBERS
+        && links_found(s, &mut found)
+        && parties_found(s, &found)
 }
 
 // Is the record sound?

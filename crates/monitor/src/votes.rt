@@ -17,10 +17,7 @@ pub(crate) fn report_number(b: u32, c: u32) -> u32
     requires { b ≤ 6 }
     ensures { result ≡ report_number b c }
 {
-    if c == 1 {
-        return 8 + b;
-    }
-    1 + b
+    if c == 1 { 8 + b } else { 1 + b }
 }
 
 // Is it a report of b?
@@ -28,7 +25,7 @@ pub(crate) fn report_is(b: u32, r: u32) -> bool
     requires { b ≤ 6 }
     ensures { result ≡ report_is b r }
 {
-    (r == 1 + b) | (r == 8 + b)
+    r == 1 + b || r == 8 + b
 }
 
 // Has a manager reported b?
@@ -36,18 +33,14 @@ pub(crate) fn some_report(b: u32, rs: [u32; 4]) -> bool
     requires { b ≤ 6 }
     ensures { result ≡ any_of (report_is b) rs }
 {
-    let first = report_is(b, rs[0]);
-    let second = report_is(b, rs[1]);
-    let third = report_is(b, rs[2]);
-    let fourth = report_is(b, rs[3]);
-    first | (second | (third | fourth))
+    rs.iter().any(|&r| report_is(b, r))
 }
 
 // Can all managers start a new transaction?
 pub(crate) fn all_can_start(rs: [u32; 4]) -> bool
     ensures { result ≡ all_can_start rs }
 {
-    !((8 <= rs[0]) | ((8 <= rs[1]) | ((8 <= rs[2]) | (8 <= rs[3]))))
+    rs.iter().all(|&r| r < 8)
 }
 
 // The code by the decision, and whether a manager is mixed, is a hazard, counts as committed, counts as rolled back.
@@ -60,25 +53,17 @@ pub(crate) fn vote_code(
 ) -> i64
     ensures { (result ≡ vote_code decision mixed hazard committed back) × EndCode result }
 {
-    if mixed | (committed & back) {
-        return codes::TX_MIXED;
+    if mixed || committed && back {
+        codes::TX_MIXED
+    } else if hazard {
+        codes::TX_HAZARD
+    } else if committed && !decision {
+        codes::TX_COMMITTED
+    } else if committed || decision && !back {
+        codes::TX_OK
+    } else {
+        codes::TX_ROLLBACK
     }
-    if hazard {
-        return codes::TX_HAZARD;
-    }
-    if committed {
-        if decision {
-            return codes::TX_OK;
-        }
-        return codes::TX_COMMITTED;
-    }
-    if back {
-        return codes::TX_ROLLBACK;
-    }
-    if decision {
-        return codes::TX_OK;
-    }
-    codes::TX_ROLLBACK
 }
 
 // The code of a commit: do document 01's conditions hold, and what the managers reported.
@@ -91,13 +76,13 @@ pub(crate) fn commit_code(can: bool, rs: [u32; 4]) -> i64
     let back = some_report(4, rs);
     let mixed = some_report(5, rs);
     let hazard = some_report(6, rs);
-    let decision = can & !veto;
+    let decision = can && !veto;
     vote_code(
         decision,
         mixed,
         hazard,
-        committed | (decision & prepared),
-        back | (veto | (!decision & prepared)),
+        committed || decision && prepared,
+        back || veto || !decision && prepared,
     )
 }
 
@@ -106,18 +91,14 @@ pub(crate) fn report(s: &mut [u32; WORDS], p: usize, a: u32, b: u32, c: u32) -> 
     requires { (p < 16) × ((view s.old).count ≤ 32) × (length s.old ≡ words) }
     ensures { (ruled_by result (view s.new) ≡ report_of (view s.old) p a b c) × (length s.new ≡ words) }
 {
-    let own = is_owner(&*s, p);
-    if !own {
+    if !is_owner(&*s, p) {
         return coded(codes::NOT_ALLOWED_NOW);
     }
-    let known = (a <= 3) & ((b <= 6) & (c <= 1));
-    if !known {
+    if a > 3 || b > 6 || c > 1 {
         return coded(codes::BAD_REPORT);
     }
-    let r = report_number(b, c);
     let mut q = party_at(&*s, p);
-    let i = a as usize;
-    q.reports[i] = r;
+    q.reports[a as usize] = report_number(b, c);
     put_party(&mut *s, p, q);
     accept(0)
 }

@@ -1,10 +1,10 @@
 // The record's words: lengths and places, readers and stores. A number of 64 bits stands in two words, the low half first.
-ghost use Rattle.std.specs.Prelude.{◌≡◌, ◌+◌, ◌*◌, ◌/◌, ◌%◌, ◌<◌, ◌≤◌, length, replicate};
-ghost use Rattle.rules.specs.Record.{fresh_party, fresh_monitor, party, with_parties, with_clock, with_last_tx, with_party, with_count, replaced, added};
-ghost use Rattle.monitor.specs.Words.{words, link_base, party_base, read_link, read_services, read_deadline, read_reports, read_may_request, read_may_advertise, read_party, link_words, party_words, stored};
+ghost use Rattle.std.specs.Prelude.{◌≡◌, ◌+◌, ◌*◌, ◌<◌, ◌≤◌, length};
+ghost use Rattle.rules.specs.Record.{fresh_monitor, party, with_clock, with_last_tx, with_party, with_count, replaced, added};
+ghost use Rattle.monitor.specs.Words.{words, low, high};
 ghost use Rattle.monitor.specs.View.{view, link_in};
 
-use rules::{Link, Party};
+use rules::{Link, Monitor, Party};
 
 // The head.
 const CLOCK: usize = 0;
@@ -100,7 +100,7 @@ pub const WORDS: usize = LINKS + 32 * LINK;
 
 // The record as a host holds it.
 #[repr(C)]
-#[derive(Clone, Copy)]
+#[derive(Clone, Copy, PartialEq, Eq)]
 pub struct Store {
     pub words: [u32; WORDS],
 }
@@ -116,12 +116,6 @@ impl Store {
 }
 
 // ---- the head
-fn wide(x: u32) -> usize
-    ensures { result ≡ x }
-{
-    x as usize
-}
-
 pub(crate) fn clock(s: &[u32; WORDS]) -> u32
     ensures { result ≡ (view s.now).clock }
 {
@@ -144,7 +138,7 @@ pub(crate) fn last_tx(s: &[u32; WORDS]) -> u32
 pub(crate) fn count(s: &[u32; WORDS]) -> usize
     ensures { result ≡ (view s.now).count }
 {
-    wide(s[COUNT])
+    s[COUNT] as usize
 }
 
 pub(crate) fn set_clock(s: &mut [u32; WORDS], t: u32)
@@ -168,111 +162,50 @@ pub(crate) fn set_count(s: &mut [u32; WORDS], n: usize)
     s[COUNT] = n as u32;
 }
 
-// ---- a party
-// A number of 64 bits and its halves.
+// ---- a number of 64 bits and its halves
 pub(crate) fn long(low: u32, high: u32) -> u64
     ensures { result ≡ low + high * 4294967296 }
 {
-    low as u64 + high as u64 * 4294967296
+    u64::from(low) | u64::from(high) << 32
 }
 
 fn low(x: u64) -> u32
-    ensures { result ≡ x % 4294967296 }
+    ensures { result ≡ low x }
 {
-    (x % 4294967296) as u32
+    (x & 0xffff_ffff) as u32
 }
 
 fn high(x: u64) -> u32
-    ensures { result ≡ x / 4294967296 }
+    ensures { result ≡ high x }
 {
-    (x / 4294967296) as u32
+    (x >> 32) as u32
 }
 
-// The code of a reader or of a store stands by itself, with a contract that spells it: such a function needs no proof file.
-fn read_services(s: &[u32; WORDS], p: usize) -> u64
+// ---- a party
+// The party p.
+pub(crate) fn party_at(s: &[u32; WORDS], p: usize) -> Party
     requires { p < 16 }
-    ensures { result ≡ read_services s.now p }
-{
-    let at = PARTIES + p * PARTY;
-    long(s[at + SERVICES], s[at + SERVICES_HIGH])
-}
-
-fn read_deadline(s: &[u32; WORDS], p: usize) -> u64
-    requires { p < 16 }
-    ensures { result ≡ read_deadline s.now p }
-{
-    let at = PARTIES + p * PARTY;
-    long(s[at + DEADLINE], s[at + DEADLINE_HIGH])
-}
-
-fn read_reports(s: &[u32; WORDS], p: usize) -> [u32; 4]
-    requires { p < 16 }
-    ensures { result ≡ read_reports s.now p }
-{
-    let at = PARTIES + p * PARTY;
-    [
-        s[at + REPORT],
-        s[at + REPORT_SECOND],
-        s[at + REPORT_THIRD],
-        s[at + REPORT_FOURTH],
-    ]
-}
-
-fn read_mayrequest(s: &[u32; WORDS], p: usize) -> u64
-    requires { p < 16 }
-    ensures { result ≡ read_may_request s.now p }
-{
-    let at = PARTIES + p * PARTY;
-    long(s[at + MAY_REQUEST], s[at + MAY_REQUEST_HIGH])
-}
-
-fn read_mayadvertise(s: &[u32; WORDS], p: usize) -> u64
-    requires { p < 16 }
-    ensures { result ≡ read_may_advertise s.now p }
-{
-    let at = PARTIES + p * PARTY;
-    long(s[at + MAY_ADVERTISE], s[at + MAY_ADVERTISE_HIGH])
-}
-
-fn read_party(
-    s: &[u32; WORDS],
-    p: usize,
-    services: u64,
-    deadline: u64,
-    reports: [u32; 4],
-    mayrequest: u64,
-    mayadvertise: u64,
-) -> Party
-    requires { p < 16 }
-    ensures { result ≡ read_party s.now p services deadline reports mayrequest mayadvertise }
+    ensures { result ≡ party (view s.now) p }
 {
     let at = PARTIES + p * PARTY;
     Party {
         opened: s[at],
         control: s[at + CONTROL],
         timeout: s[at + TIMEOUT],
-        services,
+        services: long(s[at + SERVICES], s[at + SERVICES_HIGH]),
         owned: s[at + OWNED],
-        deadline,
+        deadline: long(s[at + DEADLINE], s[at + DEADLINE_HIGH]),
         rollbackonly: s[at + ROLLBACK_ONLY],
         served: s[at + SERVED],
-        reports,
-        mayrequest,
-        mayadvertise,
+        reports: [
+            s[at + REPORT],
+            s[at + REPORT_SECOND],
+            s[at + REPORT_THIRD],
+            s[at + REPORT_FOURTH],
+        ],
+        mayrequest: long(s[at + MAY_REQUEST], s[at + MAY_REQUEST_HIGH]),
+        mayadvertise: long(s[at + MAY_ADVERTISE], s[at + MAY_ADVERTISE_HIGH]),
     }
-}
-
-// The party p.
-pub(crate) fn party_at(s: &[u32; WORDS], p: usize) -> Party
-    requires { p < 16 }
-    ensures { result ≡ party (view s.now) p }
-{
-    let services = read_services(s, p);
-    let deadline = read_deadline(s, p);
-    let reports = read_reports(s, p);
-    let mayrequest = read_mayrequest(s, p);
-    let mayadvertise = read_mayadvertise(s, p);
-    read_party(s, p, services, deadline, reports, mayrequest, mayadvertise)
 }
 
 // One of its fields.
@@ -280,74 +213,35 @@ pub(crate) fn services_at(s: &[u32; WORDS], p: usize) -> u64
     requires { p < 16 }
     ensures { result ≡ (party (view s.now) p).services }
 {
-    read_services(s, p)
+    party_at(s, p).services
 }
 
 pub(crate) fn owned_at(s: &[u32; WORDS], p: usize) -> u32
     requires { p < 16 }
     ensures { result ≡ (party (view s.now) p).owned }
 {
-    let at = PARTIES + p * PARTY;
-    s[at + OWNED]
+    party_at(s, p).owned
 }
 
 pub(crate) fn served_at(s: &[u32; WORDS], p: usize) -> u32
     requires { p < 16 }
     ensures { result ≡ (party (view s.now) p).served }
 {
-    let at = PARTIES + p * PARTY;
-    s[at + SERVED]
+    party_at(s, p).served
 }
 
 pub(crate) fn reports_at(s: &[u32; WORDS], p: usize) -> [u32; 4]
     requires { p < 16 }
     ensures { result ≡ (party (view s.now) p).reports }
 {
-    read_reports(s, p)
+    party_at(s, p).reports
 }
 
 pub(crate) fn mayrequest_at(s: &[u32; WORDS], p: usize) -> u64
     requires { p < 16 }
     ensures { result ≡ (party (view s.now) p).mayrequest }
 {
-    read_mayrequest(s, p)
-}
-
-fn store_party(
-    s: &mut [u32; WORDS],
-    p: usize,
-    q: Party,
-    sl: u32,
-    sh: u32,
-    dl: u32,
-    dh: u32,
-    rl: u32,
-    rh: u32,
-    al: u32,
-    ah: u32,
-)
-    requires { p < 16 }
-    ensures { s.new ≡ stored s.old (party_base p) (party_words q sl sh dl dh rl rh al ah) }
-{
-    let at = PARTIES + p * PARTY;
-    s[at] = q.opened;
-    s[at + CONTROL] = q.control;
-    s[at + TIMEOUT] = q.timeout;
-    s[at + SERVICES] = sl;
-    s[at + SERVICES_HIGH] = sh;
-    s[at + OWNED] = q.owned;
-    s[at + DEADLINE] = dl;
-    s[at + DEADLINE_HIGH] = dh;
-    s[at + ROLLBACK_ONLY] = q.rollbackonly;
-    s[at + SERVED] = q.served;
-    s[at + REPORT] = q.reports[0];
-    s[at + REPORT_SECOND] = q.reports[1];
-    s[at + REPORT_THIRD] = q.reports[2];
-    s[at + REPORT_FOURTH] = q.reports[3];
-    s[at + MAY_REQUEST] = rl;
-    s[at + MAY_REQUEST_HIGH] = rh;
-    s[at + MAY_ADVERTISE] = al;
-    s[at + MAY_ADVERTISE_HIGH] = ah;
+    party_at(s, p).mayrequest
 }
 
 // The party p becomes q.
@@ -355,28 +249,25 @@ pub(crate) fn put_party(s: &mut [u32; WORDS], p: usize, q: Party)
     requires { (p < 16) × (length s.old ≡ words) }
     ensures { (view s.new ≡ with_party (view s.old) p q) × (length s.new ≡ words) }
 {
-    let sl = low(q.services);
-    let sh = high(q.services);
-    let dl = low(q.deadline);
-    let dh = high(q.deadline);
-    let rl = low(q.mayrequest);
-    let rh = high(q.mayrequest);
-    let al = low(q.mayadvertise);
-    let ah = high(q.mayadvertise);
-    store_party(&mut *s, p, q, sl, sh, dl, dh, rl, rh, al, ah);
-}
-
-// Every party becomes fresh.
-fn clear_parties(s: &mut [u32; WORDS])
-    requires { length s.old ≡ words }
-    ensures { (view s.new ≡ with_parties (view s.old) (replicate 16 fresh_party)) × (length s.new ≡ words) }
-{
-    let none = Party::fresh();
-    let mut p = 0;
-    while p < 16 {
-        put_party(&mut *s, p, none);
-        p += 1;
-    }
+    let at = PARTIES + p * PARTY;
+    s[at] = q.opened;
+    s[at + CONTROL] = q.control;
+    s[at + TIMEOUT] = q.timeout;
+    s[at + SERVICES] = low(q.services);
+    s[at + SERVICES_HIGH] = high(q.services);
+    s[at + OWNED] = q.owned;
+    s[at + DEADLINE] = low(q.deadline);
+    s[at + DEADLINE_HIGH] = high(q.deadline);
+    s[at + ROLLBACK_ONLY] = q.rollbackonly;
+    s[at + SERVED] = q.served;
+    s[at + REPORT] = q.reports[0];
+    s[at + REPORT_SECOND] = q.reports[1];
+    s[at + REPORT_THIRD] = q.reports[2];
+    s[at + REPORT_FOURTH] = q.reports[3];
+    s[at + MAY_REQUEST] = low(q.mayrequest);
+    s[at + MAY_REQUEST_HIGH] = high(q.mayrequest);
+    s[at + MAY_ADVERTISE] = low(q.mayadvertise);
+    s[at + MAY_ADVERTISE_HIGH] = high(q.mayadvertise);
 }
 
 // The record becomes fresh: all is 0 but what the parties may do.
@@ -384,13 +275,16 @@ pub(crate) fn clear(s: &mut [u32; WORDS])
     ensures { view s.new ≡ fresh_monitor }
 {
     *s = [0; WORDS];
-    clear_parties(&mut *s);
+    for p in 0..Monitor::PARTIES {
+        put_party(&mut *s, p, Party::fresh());
+    }
 }
 
 // ---- a link
-fn read_link(s: &[u32; WORDS], i: usize) -> Link
+// The link at the place i of the room.
+pub(crate) fn link_at(s: &[u32; WORDS], i: usize) -> Link
     requires { i < 32 }
-    ensures { result ≡ read_link s.now i }
+    ensures { result ≡ link_in (view s.now) i }
 {
     let at = LINKS + i * LINK;
     Link {
@@ -418,69 +312,55 @@ fn read_link(s: &[u32; WORDS], i: usize) -> Link
     }
 }
 
-// The link at the place i of the room.
-pub(crate) fn link_at(s: &[u32; WORDS], i: usize) -> Link
-    requires { i < 32 }
-    ensures { result ≡ link_in (view s.now) i }
-{
-    read_link(s, i)
-}
-
 // One of its fields.
 pub(crate) fn number_at(s: &[u32; WORDS], i: usize) -> u32
     requires { i < 32 }
     ensures { result ≡ (link_in (view s.now) i).number }
 {
-    let at = LINKS + i * LINK;
-    s[at]
+    link_at(s, i).number
 }
 
 pub(crate) fn kind_at(s: &[u32; WORDS], i: usize) -> u32
     requires { i < 32 }
     ensures { result ≡ (link_in (view s.now) i).kind }
 {
-    let at = LINKS + i * LINK;
-    s[at + KIND]
+    link_at(s, i).kind
 }
 
 pub(crate) fn originator_at(s: &[u32; WORDS], i: usize) -> u32
     requires { i < 32 }
     ensures { result ≡ (link_in (view s.now) i).originator }
 {
-    let at = LINKS + i * LINK;
-    s[at + ORIGINATOR]
+    link_at(s, i).originator
 }
 
 pub(crate) fn attached_at(s: &[u32; WORDS], i: usize) -> u32
     requires { i < 32 }
     ensures { result ≡ (link_in (view s.now) i).attached }
 {
-    let at = LINKS + i * LINK;
-    s[at + ATTACHED]
+    link_at(s, i).attached
 }
 
 pub(crate) fn tx_at(s: &[u32; WORDS], i: usize) -> u32
     requires { i < 32 }
     ensures { result ≡ (link_in (view s.now) i).tx }
 {
-    let at = LINKS + i * LINK;
-    s[at + TX]
+    link_at(s, i).tx
 }
 
 pub(crate) fn state_at(s: &[u32; WORDS], i: usize) -> u32
     requires { i < 32 }
     ensures { result ≡ (link_in (view s.now) i).state }
 {
-    let at = LINKS + i * LINK;
-    s[at + STATE]
+    link_at(s, i).state
 }
 
-fn store_link(s: &mut [u32; WORDS], i: usize, l: Link)
-    requires { i < 32 }
-    ensures { s.new ≡ stored s.old (link_base i) (link_words l) }
+// The link at the place i becomes l.
+pub(crate) fn put_link(s: &mut [u32; WORDS], i: usize, l: Link)
+    requires { (i < 32) × (length s.old ≡ words) }
+    ensures { (view s.new ≡ replaced (view s.old) i l) × (length s.new ≡ words) }
 {
     let at = LINKS + i * LINK;
-    let u = l.unread;
     s[at] = l.number;
     s[at + KIND] = l.kind;
     s[at + ORIGINATOR] = l.originator;
@@ -495,19 +375,11 @@ fn store_link(s: &mut [u32; WORDS], i: usize, l: Link)
     s[at + SENDER] = l.sender;
     s[at + GRANTING] = l.granting;
     s[at + DISCONNECTED] = l.disconnected;
-    s[at + UNREAD] = u[0];
-    s[at + UNREAD_SECOND] = u[1];
-    s[at + UNREAD_THIRD] = u[2];
-    s[at + UNREAD_FOURTH] = u[3];
+    s[at + UNREAD] = l.unread[0];
+    s[at + UNREAD_SECOND] = l.unread[1];
+    s[at + UNREAD_THIRD] = l.unread[2];
+    s[at + UNREAD_FOURTH] = l.unread[3];
     s[at + FILLED] = l.filled;
-}
-
-// The link at the place i becomes l.
-pub(crate) fn put_link(s: &mut [u32; WORDS], i: usize, l: Link)
-    requires { (i < 32) × (length s.old ≡ words) }
-    ensures { (view s.new ≡ replaced (view s.old) i l) × (length s.new ≡ words) }
-{
-    store_link(&mut *s, i, l);
 }
 
 // A new link, which has the next number.

@@ -7,7 +7,7 @@ ghost use Rattle.std.specs.Prelude.{◌≡◌};
 ghost use Rattle.rules.specs.Record.{fresh_party, fresh_link};
 
 // A party. Yes/no fields and other choices are numbers, so that whatever a host lends is a value that can be refused.
-#[derive(Clone, Copy)]
+#[derive(Clone, Copy, PartialEq, Eq)]
 pub struct Party {
     // 0 not opened, 1 opened
     pub opened: u32,
@@ -34,7 +34,7 @@ pub struct Party {
 }
 
 // A request or a conversation between its originator and the party that serves it.
-#[derive(Clone, Copy)]
+#[derive(Clone, Copy, PartialEq, Eq)]
 pub struct Link {
     pub number: u32,
     // 0 request, 1 conversation

@@ -1,7 +1,18 @@
--- `words::clear` meets its contract.
-use Rattle.monitor.proofs.Usual.{◌∙◌}
-use Rattle.monitor.proofs.Clearing.{zeros_fresh}
+-- `words::clear` meets its contract: the parties before p are fresh, and the rest is 0.
+use Rattle.monitor.proofs.Usual.{◌≡◌, ap, ◌∙◌, arith, Monitor, with_party, words, view, parties_long}
+use lib.ListN.{replicate}
+use Rattle.monitor.proofs.Clearing.{cleared_to, cleared_more, cleared_all, zeros_fresh}
 use Rattle.monitor.proofs.words.clear.Goals as goal
 
+pub loop-p-preserved : goal.loop-p-preserved
+loop-p-preserved c =
+    let v = c.loop-p in
+    let x = c.fresh in
+    let put = c.put_party.ensures in
+    let more = cleared_more (view (replicate words 0)) v.p _ (parties_long 16 0 _) (omega arith) x.ensures in
+    (put.1, put.0 ∙ ap (λ (m : Monitor). with_party m v.p x.result) v.invariant.1 ∙ more)
+
 pub returns : goal.returns
-returns c = c.clear_parties.ensures.0 ∙ zeros_fresh
+returns c =
+    let e : c.loop-p.p ≡ 16 = omega arith in
+    c.loop-p.invariant.1 ∙ ap (cleared_to (view (replicate words 0))) e ∙ cleared_all (replicate words 0) ∙ zeros_fresh

@@ -5,5 +5,5 @@ use Rattle.monitor.proofs.words.party_at.Goals as goal
 pub returns : goal.returns
 unfolding party_at
 returns c =
-    let e : c.read_party.result ≡ party_at c.args.s.now c.args.p = cc in
+    let e : _ ≡ party_at c.args.s.now c.args.p = cc in
     e ∙ sym (party_law c.args.s.now c.args.p c.requires)

@@ -1,7 +1,5 @@
 -- `words::put_link` meets its contract.
-use mathlib.Core.Path.{◌≡◌}
-use borrow.Author.Rules.{rules}
-use lib.ListN.{length}
+use Rattle.monitor.proofs.Usual.{◌≡◌, refl, rules, length}
 use Rattle.monitor.proofs.Put.{put_link_law}
 use Rattle.monitor.proofs.words.put_link.Goals as goal
 
@@ -9,4 +7,4 @@ pub returns : goal.returns
 returns c =
     let a = c.args in
     let u : length a.l.unread ≡ 4 = search rules in
-    put_link_law a.s.now a.i a.l c.requires.1 c.requires.0 u _ c.store_link.ensures
+    put_link_law a.s.now a.i a.l c.requires.1 c.requires.0 u _ refl
