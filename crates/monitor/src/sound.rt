@@ -80,6 +80,7 @@ pub(crate) fn parties_found(s: &[u32; WORDS], found: &[u32; 16]) -> bool
     true
 }
 
+#[tactic(auto, unfolding(rules::specs::Sound::sound, rules::specs::Choice::pick))]
 pub(crate) fn is_sound_in(s: &[u32; WORDS]) -> bool
     ensures { result ≡ sound (view s.now) }
 {
