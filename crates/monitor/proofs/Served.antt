@@ -11,13 +11,13 @@ use lib.ListN.{length, get_or, set}
 use lib.Seq.{get_or-set_same, get_or-set_other}
 use Rattle.rules.specs.Choice.{pick, same}
 use Rattle.rules.specs.Lists.{first_of}
-use Rattle.rules.specs.Record.{fresh_link, is_working, live, numbered, link_of}
+use Rattle.rules.specs.Record.{fresh_link, is_working, live, party, numbered, link_of}
 use Rattle.rules.specs.Sound.{link_good, links_good, works_for, choices_good, party_good}
 use Rattle.rules.specs.declared.Party.{Party}
 use Rattle.rules.specs.declared.Link.{Link}
 use Rattle.rules.specs.declared.Monitor.{Monitor}
 use Rattle.rules.proofs.Logic.{pick_true, pick_false, test, same_ne, same_true, same_false, and_l, and_r, and_yes, and_false}
-use Rattle.monitor.specs.Served.{served_by, found_of}
+use Rattle.monitor.specs.Served.{served_by, found_of, FoundAll}
 
 -- ---- one link, as the code tests it
 module _ (p d : ℕ) (l : Link) where
@@ -101,7 +101,7 @@ module _ (last p d : ℕ) (z : d ≡ 0 → ⊥) where
       test (same l.number d) (finds_here l ls r) (finds_later l ls (finds ls l.number r))
 
 -- a party is good where what is found for it is what it serves
-pub party_found : (m : Monitor) (p : ℕ) (q : Party) → links_good m.lastlink 0 (live m) ≡ true
+party_found : (m : Monitor) (p : ℕ) (q : Party) → links_good m.lastlink 0 (live m) ≡ true
     → party_good m p q ≡ choices_good q && eqb q.served (found_of p q.served 0 (live m))
 unfolding party_good link_of
 party_found m p q g = test (eqb q.served 0) none some
@@ -114,6 +114,12 @@ party_found m p q g = test (eqb q.served 0) none some
 
     some : eqb q.served 0 ≡ false → party_good m p q ≡ choices_good q && eqb q.served (found_of p q.served 0 (live m))
     some t = pick_false _ _ _ t ∙ sym (ap (λ (x : Bool). choices_good q && x) (finds m.lastlink p q.served (eqb-false _ _ t) (live m) 0 g))
+
+pub party_tested : (m : Monitor) (found : List ℕ) (p : ℕ) (q : Party) → p < 16 → q ≡ party m p → links_good m.lastlink 0 (live m) ≡ true → FoundAll m found
+    → party_good m p q ≡ choices_good q && eqb q.served (get_or found p 0)
+party_tested m found p q h e g f =
+    party_found m p q g
+    ∙ ap (λ (d : ℕ). choices_good q && eqb q.served d) (ap (λ (q : Party). found_of p q.served 0 (live m)) e ∙ sym (f p h))
 
 -- ---- the pass: where it begins, ends and goes on
 pub found_over : (p d f : ℕ) (s : List Link) → s ≡ [] → found_of p d f s ≡ f

@@ -10,6 +10,7 @@ use super::words::{WORDS, long, party_at, put_party};
 use rules::{Party, codes};
 
 // The party with the set that a names replaced.
+#[tactic(auto, unfolding(rules::specs::Rights::granted, rules::specs::Choice::pick))]
 pub(crate) fn grant(q: Party, a: u32, set: u64) -> Party
     ensures { result ≡ granted q a set }
 {

@@ -12,6 +12,7 @@ use super::words::{Store, WORDS};
 use rules::{Answer, Call, codes};
 
 // The call that starts at a place of the list.
+#[tactic(auto, unfolding(rules::specs::Run::call_at))]
 pub(crate) fn call_at(calls: &[u32], at: usize) -> Call
     requires { at + 6 ≤ length calls.now }
     ensures { result ≡ call_at (drop at calls.now) }

@@ -50,14 +50,11 @@ pub(crate) fn links_found(s: &[u32; WORDS], found: &mut [u32; 16]) -> bool
     let mut prev = 0;
     for i in 0..count(s) {
         let l = link_at(s, i);
-        let good = link_good(l);
-        let ok = prev < l.number && good;
-        if !ok {
+        if l.number <= prev || !link_good(l) {
             return false;
         }
         let p = l.server as usize;
-        let served = served_at(s, p);
-        if l.state == 1 && l.number == served {
+        if l.state == 1 && l.number == served_at(s, p) {
             found[p] = l.number;
         }
         prev = l.number;
@@ -72,8 +69,7 @@ pub(crate) fn parties_found(s: &[u32; WORDS], found: &[u32; 16]) -> bool
 {
     for p in 0..Monitor::PARTIES {
         let q = party_at(s, p);
-        let ok = choices_good(q) && q.served == found[p];
-        if !ok {
+        if !choices_good(q) || q.served != found[p] {
             return false;
         }
     }

@@ -13,6 +13,7 @@ use super::words::{WORDS, party_at, put_party};
 use rules::codes;
 
 // A report of b as the record keeps it, with c = 1 where the manager can't start.
+#[tactic(auto, unfolding(rules::specs::Votes::report_number, rules::specs::Choice::pick))]
 pub(crate) fn report_number(b: u32, c: u32) -> u32
     requires { b ≤ 6 }
     ensures { result ≡ report_number b c }
@@ -21,6 +22,7 @@ pub(crate) fn report_number(b: u32, c: u32) -> u32
 }
 
 // Is it a report of b?
+#[tactic(auto, unfolding(rules::specs::Votes::report_is))]
 pub(crate) fn report_is(b: u32, r: u32) -> bool
     requires { b ≤ 6 }
     ensures { result ≡ report_is b r }
@@ -44,6 +46,7 @@ pub(crate) fn all_can_start(rs: [u32; 4]) -> bool
 }
 
 // The code by the decision, and whether a manager is mixed, is a hazard, counts as committed, counts as rolled back.
+#[tactic(auto, unfolding(rules::specs::Votes::vote_code, rules::specs::Choice::pick))]
 pub(crate) fn vote_code(
     decision: bool,
     mixed: bool,
@@ -57,16 +60,21 @@ pub(crate) fn vote_code(
         codes::TX_MIXED
     } else if hazard {
         codes::TX_HAZARD
-    } else if committed && !decision {
-        codes::TX_COMMITTED
-    } else if committed || decision && !back {
-        codes::TX_OK
-    } else {
+    } else if committed {
+        if decision {
+            codes::TX_OK
+        } else {
+            codes::TX_COMMITTED
+        }
+    } else if back || !decision {
         codes::TX_ROLLBACK
+    } else {
+        codes::TX_OK
     }
 }
 
 // The code of a commit: do document 01's conditions hold, and what the managers reported.
+#[tactic(auto, unfolding(rules::specs::Votes::commit_code, rules::specs::Votes::code_after, rules::specs::Votes::decides, rules::specs::Votes::some_committed, rules::specs::Votes::some_rolled_back))]
 pub(crate) fn commit_code(can: bool, rs: [u32; 4]) -> i64
     ensures { (result ≡ commit_code can rs) × EndCode result }
 {
