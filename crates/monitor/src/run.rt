@@ -35,12 +35,14 @@ pub(crate) fn put(out: &mut [i64], at: usize, r: Answer)
     requires { at + 6 ≤ length out.old }
     ensures { out.new ≡ take at out.old ++ places_of r ++ drop (at + 6) out.old }
 {
-    out[at] = r.code;
-    out[at + 1] = i64::from(r.value);
-    out[at + 2] = i64::from(r.event);
-    out[at + 3] = i64::from(r.token);
-    out[at + 4] = i64::from(r.service);
-    out[at + 5] = i64::from(r.tx);
+    out[at..at + 6].copy_from_slice(&[
+        r.code,
+        i64::from(r.value),
+        i64::from(r.event),
+        i64::from(r.token),
+        i64::from(r.service),
+        i64::from(r.tx),
+    ]);
 }
 
 // n calls, one after the other.
@@ -58,6 +60,7 @@ pub(crate) fn run(s: &mut [u32; WORDS], calls: &[u32], out: &mut [i64], n: usize
 }
 
 // A whole list, on whatever record is lent: 0, 17, 16 or 19.
+#[tactic(auto, unfolding(rules::specs::Run::list_of, rules::specs::Choice::pick))]
 pub(crate) fn run_on(s: &mut [u32; WORDS], calls: &[u32], answers: &mut [i64]) -> i64
     requires { length s.old ≡ words }
     ensures { (listed result (view s.new) answers.new ≡ list_of (view s.old) calls.now answers.old) × (length s.new ≡ words) }

@@ -13,7 +13,7 @@ loop-i-init c =
     let z : a.n - 0 ≡ a.n = omega arith in
     let answers = ap (λ (k : ℕ). answers_of k m a.calls.now) z in
     let ran = ap (λ (k : ℕ). ran_of k m a.calls.now) z in
-    (omega arith, refl, answers, refl, ran, c.requires.0, c.requires.1)
+    (refl, answers, refl, ran, c.requires.0, c.requires.1)
 
 pub loop-i-preserved : goal.loop-i-preserved
 loop-i-preserved c =
@@ -27,12 +27,11 @@ loop-i-preserved c =
     let out' = c.put.new.out in
     let e = d.ensures.0 ∙ ap (call_of m) c.call_at-call.ensures in
     let w : out' ≡ take (v.i * 6) v.out ++ places_of s.answer ++ drop (v.i * 6 + 6) v.out = c.put.ensures in
-    let room : a.n * 6 ≤ length v.out = omega (arith, v.invariant.1, c.requires) in (
-      omega (arith, t),
-      turn_length a.n v.i t a.calls.now m m₀ s e v.out a.out.now out' room w ∙ v.invariant.1,
-      turn_answers a.n v.i t a.calls.now m m₀ s e v.out a.out.now out' room w v.invariant.2,
-      turn_past a.n v.i t a.calls.now m m₀ s e v.out a.out.now out' room w v.invariant.3,
-      turn_ran a.n v.i t a.calls.now m m₀ s e v.invariant.4,
+    let room : a.n * 6 ≤ length v.out = omega (arith, v.invariant.0, c.requires) in (
+      turn_length a.n v.i t a.calls.now m m₀ s e v.out a.out.now out' room w ∙ v.invariant.0,
+      turn_answers a.n v.i t a.calls.now m m₀ s e v.out a.out.now out' room w v.invariant.1,
+      turn_past a.n v.i t a.calls.now m m₀ s e v.out a.out.now out' room w v.invariant.2,
+      turn_ran a.n v.i t a.calls.now m m₀ s e v.invariant.3,
       d.ensures.1,
       d.ensures.2,
     )
@@ -48,9 +47,9 @@ returns c =
     let p : take (v.i * 6) v.out ≡ k =
     sym (append-nil (take (v.i * 6) v.out))
     ∙ ap (λ (r : List ℤ). take (v.i * 6) v.out ++ r) (sym (answers_none (a.n - v.i) m (drop (v.i * 6) a.calls.now) z))
-    ∙ v.invariant.2 in
-    let q : drop (v.i * 6) v.out ≡ drop (a.n * 6) a.out.now = v.invariant.3 ∙ ap (λ (j : ℕ). drop (j * 6) a.out.now) i in (
-      sym (ran_none (a.n - v.i) m (drop (v.i * 6) a.calls.now) z) ∙ v.invariant.4,
+    ∙ v.invariant.1 in
+    let q : drop (v.i * 6) v.out ≡ drop (a.n * 6) a.out.now = v.invariant.2 ∙ ap (λ (j : ℕ). drop (j * 6) a.out.now) i in (
+      sym (ran_none (a.n - v.i) m (drop (v.i * 6) a.calls.now) z) ∙ v.invariant.3,
       sym (take-append-drop (v.i * 6) v.out) ∙ ap (λ (r : List ℤ). r ++ drop (v.i * 6) v.out) p ∙ ap (λ (r : List ℤ). k ++ r) q,
-      v.invariant.6,
+      v.invariant.5,
     )
