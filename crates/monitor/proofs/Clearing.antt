@@ -5,7 +5,7 @@ use mathlib.Core.Path.{◌≡◌, refl, ap, sym, ◌∙◌}
 use mathlib.Core.List.{List, ◌++◌}
 use native.Mathlib.Omega.{arith}
 use lib.ListN.{length, get_or, set, replicate, get_or-replicate}
-use lib.Seq.{paste, paste-zero, paste-suc}
+use lib.Seq.{paste, paste-suc}
 use Rattle.rules.specs.declared.Party.{Party}
 use Rattle.rules.specs.declared.Monitor.{Monitor}
 use Rattle.rules.specs.Record.{fresh_party, fresh_monitor, with_parties, with_party}
@@ -16,9 +16,6 @@ use Rattle.monitor.proofs.Laws.{end_party}
 -- the parties before p are fresh
 abbrev pub cleared_to : Monitor → ℕ → Monitor
 cleared_to m p = with_parties m (paste m.parties 0 (replicate 16 fresh_party) p)
-
-pub cleared_none : (m : Monitor) → m ≡ cleared_to m 0
-cleared_none m = ap (with_parties m) (paste-zero m.parties 0 (replicate 16 fresh_party))
 
 pub cleared_more : (m : Monitor) (p : ℕ) (x : Party) → length m.parties ≡ 16 → p < 16 → x ≡ fresh_party → with_party (cleared_to m p) p x ≡ cleared_to m (p + 1)
 cleared_more m p x n h e =

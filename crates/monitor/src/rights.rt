@@ -40,7 +40,7 @@ pub(crate) fn set_rights(s: &mut [u32; WORDS], p: usize, a: u32, b: u32, c: u32)
         return coded(codes::BAD_ARGUMENT);
     }
     let i = (a / 2) as usize;
-    let q = grant(party_at(&*s, i), a, long(b, c));
-    put_party(&mut *s, i, q);
+    let q = grant(party_at(s, i), a, long(b, c));
+    put_party(s, i, q);
     accept(0)
 }

@@ -51,11 +51,12 @@ pub(crate) fn run(s: &mut [u32; WORDS], calls: &[u32], out: &mut [i64], n: usize
     ensures { (view s.new ≡ ran_of n (view s.old) calls.now)
         × (out.new ≡ answers_of n (view s.old) calls.now ++ drop (n * 6) out.old) × (length s.new ≡ words) }
 {
+    // By place: of what `chunks_exact_mut` lent, a proof knows only how much it was.
     for i in 0..n {
         let at = i * 6;
         let call = call_at(calls, at);
-        let r = call_on(&mut *s, call);
-        put(&mut *out, at, r);
+        let r = call_on(s, call);
+        put(out, at, r);
     }
 }
 
@@ -71,11 +72,11 @@ pub(crate) fn run_on(s: &mut [u32; WORDS], calls: &[u32], answers: &mut [i64]) -
     if answers.len() < calls.len() {
         return codes::TOO_LITTLE_ROOM;
     }
-    if !is_sound_in(&*s) {
+    if !is_sound_in(s) {
         return codes::UNSOUND;
     }
     let n = calls.len() / 6;
-    run(&mut *s, calls, &mut *answers, n);
+    run(s, calls, answers, n);
     codes::LIST_RUN
 }
 
@@ -83,6 +84,6 @@ pub(crate) fn run_on(s: &mut [u32; WORDS], calls: &[u32], answers: &mut [i64]) -
 pub fn run_list(mut m: Store, calls: &[u32], answers: &mut [i64]) -> Ran
     ensures { listed result.code (view result.store.words) answers.new ≡ list_of (view m.words) calls.now answers.old }
 {
-    let code = run_on(&mut m.words, calls, &mut *answers);
+    let code = run_on(&mut m.words, calls, answers);
     Ran { store: m, code }
 }

@@ -99,14 +99,14 @@ pub(crate) fn report(s: &mut [u32; WORDS], p: usize, a: u32, b: u32, c: u32) -> 
     requires { (p < 16) × ((view s.old).count ≤ 32) × (length s.old ≡ words) }
     ensures { (ruled_by result (view s.new) ≡ report_of (view s.old) p a b c) × (length s.new ≡ words) }
 {
-    if !is_owner(&*s, p) {
+    if !is_owner(s, p) {
         return coded(codes::NOT_ALLOWED_NOW);
     }
     if a > 3 || b > 6 || c > 1 {
         return coded(codes::BAD_REPORT);
     }
-    let mut q = party_at(&*s, p);
+    let mut q = party_at(s, p);
     q.reports[a as usize] = report_number(b, c);
-    put_party(&mut *s, p, q);
+    put_party(s, p, q);
     accept(0)
 }

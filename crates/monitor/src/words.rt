@@ -276,7 +276,7 @@ pub(crate) fn clear(s: &mut [u32; WORDS])
 {
     *s = [0; WORDS];
     for p in 0..Monitor::PARTIES {
-        put_party(&mut *s, p, Party::fresh());
+        put_party(s, p, Party::fresh());
     }
 }
 
@@ -387,9 +387,9 @@ pub(crate) fn add_link(s: &mut [u32; WORDS], l: Link)
     requires { ((view s.old).count < 32) × ((view s.old).lastlink < 60000) × (length s.old ≡ words) }
     ensures { (view s.new ≡ added (view s.old) l) × (length s.new ≡ words) }
 {
-    let i = count(&*s);
-    let d = last_link(&*s);
-    put_link(&mut *s, i, l);
+    let i = count(s);
+    let d = last_link(s);
+    put_link(s, i, l);
     s[LAST_LINK] = d + 1;
     s[COUNT] = i as u32 + 1;
 }

@@ -1,5 +1,5 @@
 -- `equality::same_parties` meets its contract.
-use Rattle.monitor.proofs.Usual.{ℕ, ◌≤◌, ◌≡◌, refl, sym, ap, ◌∙◌, arith, rules, length, fresh_party, party, view, same_party, parties_long}
+use Rattle.monitor.proofs.Usual.{refl, sym, ◌∙◌, arith, rules, fresh_party, party, view, same_party, parties_long}
 use borrow.Author.Tests.{tests}
 use Rattle.std.proofs.lemmas.Iterator.{YieldsList-from_range}
 use Rattle.std.proofs.lemmas.Iterator.Search.{all_from_yields_List}

@@ -1,10 +1,9 @@
 -- `sound::links_found` meets its contract. The invariant: what is found so far, and then of the links from place i on, is what all links give.
-use Rattle.monitor.proofs.Usual.{ℕ, ◌<◌, ◌≡◌, refl, ap, sym, ◌∙◌, List, Bool, true, false, ◌&&◌, arith, eqb, ltb, leb, length, get_or, pick}
-use Rattle.monitor.proofs.Usual.{eq-eqb, ne_eqb, lt-ltb, le-ltb, Link, live, party, link_good, view, end_live}
-use lib.ListN.{length-set, get_or-replicate}
+use Rattle.monitor.proofs.Usual.{ℕ, ◌≡◌, refl, ap, sym, ◌∙◌, List, Bool, true, false, ◌&&◌, arith, eqb, ltb, leb, get_or, pick}
+use Rattle.monitor.proofs.Usual.{eq-eqb, ne_eqb, lt-ltb, le-ltb, party, link_good, view, end_live}
 use Rattle.rules.specs.Record.{is_working}
-use Rattle.rules.proofs.Logic.{and_true, and_false, and_r, not_both}
-use Rattle.monitor.specs.Served.{served_by, found_for}
+use Rattle.rules.proofs.Logic.{and_true, and_false, not_both}
+use Rattle.monitor.specs.Served.{served_by}
 use Rattle.monitor.proofs.Checks.{links_over, link_passed, link_failed}
 use Rattle.monitor.proofs.Comparing.{link_read}
 use Rattle.monitor.proofs.Served.{server_small, found_over, found_next, found_put, found_kept}

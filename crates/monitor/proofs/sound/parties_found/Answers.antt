@@ -1,5 +1,5 @@
 -- `sound::parties_found` meets its contract.
-use Rattle.monitor.proofs.Usual.{◌≡◌, ap, sym, ◌∙◌, Bool, true, false, ◌&&◌, arith, eqb, eq-eqb, ne_eqb, get_or, view, party_good, end_party}
+use Rattle.monitor.proofs.Usual.{◌≡◌, ap, sym, ◌∙◌, Bool, false, ◌&&◌, arith, eqb, eq-eqb, ne_eqb, get_or, view, end_party}
 use Rattle.rules.specs.Sound.{choices_good}
 use Rattle.rules.proofs.Logic.{and_true, and_false}
 use Rattle.monitor.proofs.Checks.{parties_over, party_passed, party_failed}
