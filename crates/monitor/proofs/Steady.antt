@@ -1,7 +1,7 @@
 -- A call on a sound record leaves a sound one, and its rule leaves room for the links.
 -- Assumes nothing.
 use Prim.Native.Nat.{ℕ, ◌≤◌}
-use mathlib.Core.Path.{◌≡◌, ap, sym, ◌∙◌}
+use mathlib.Core.Path.{◌≡◌, ap, ap₂, sym, ◌∙◌}
 use mathlib.Core.List.{List}
 use mathlib.Core.Bool.{true}
 use borrow.Author.Tests.{le-leb}
@@ -25,13 +25,13 @@ module _ (xs : List ℕ) (c : Call) where
   call_sound h = (call_sound_kept (view xs) (record { shape = view_shape xs; is_sound = h }) c).is_sound
 
   -- the rule's part of a call past question 21: r is what it gives on the record n, whose clock is set
-  module _ (k : is_kind c.kind ≡ true) (p : c.party ≤ 15) (n : Monitor) (e : n ≡ advanced (view xs) c.clock)
-      (r : Ruled) (f : r ≡ rule_of n c.party c.kind c.a c.b c.c) where
+  module _ (known : is_kind c.kind ≡ true) (p : c.party ≤ 15) (n : Monitor) (e : n ≡ advanced (view xs) c.clock)
+      (k : ℕ) (g : k ≡ c.kind) (r : Ruled) (f : r ≡ rule_of n c.party k c.a c.b c.c) where
     pub told_call : answered_to r c.party ≡ call_of (view xs) c
     unfolding call_of
     told_call =
-        ap (λ (x : Ruled). answered_to x c.party) (f ∙ ap (λ (m : Monitor). rule_of m c.party c.kind c.a c.b c.c) e)
-        ∙ sym (pick_true _ _ _ k ∙ pick_true _ _ _ (le-leb _ _ p))
+        ap (λ (x : Ruled). answered_to x c.party) (f ∙ ap₂ (λ (m : Monitor) (k : ℕ). rule_of m c.party k c.a c.b c.c) e g)
+        ∙ sym (pick_true _ _ _ known ∙ pick_true _ _ _ (le-leb _ _ p))
 
     pub rule_room : sound (view xs) ≡ true → r.monitor.count ≤ 32
     unfolding answered_to

@@ -7,6 +7,7 @@ mod entry;
 mod equality;
 mod file;
 mod fresh;
+mod kinds;
 mod links;
 mod replies;
 mod requests;

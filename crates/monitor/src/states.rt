@@ -1,97 +1,145 @@
 // The TX state table: nine calls by five states.
-ghost use Rattle.std.specs.Prelude.{◌≡◌, ◌<◌, ◌≤◌, eqb, length};
-ghost use Rattle.rules.specs.Choice.{pick};
+ghost use Rattle.std.specs.Prelude.{◌≡◌, ◌-◌, ◌<◌, ◌≤◌, length};
 ghost use Rattle.rules.specs.States.{state_of, next_of, in_state, entered};
+ghost use Rattle.monitor.specs.States.{state_number, chained_of, next_number, call_number};
 ghost use Rattle.monitor.specs.Words.{words};
 ghost use Rattle.monitor.specs.View.{view};
 
+use self::State::{S0, S1, S2, S3, S4};
 use super::transaction::tx_of;
 use super::words::{WORDS, party_at, put_party};
 use rules::Party;
 
-// The next states, a row of the states 0 to 4 for each of the calls 1 to 9.
-const NEXT: [u8; 45] = [
-    1, 1, 2, 3, 4, 0, 0, 0, 9, 9, 9, 3, 4, 9, 9, 9, 9, 9, 1, 4, 9, 9, 9, 1, 4, 9, 1, 2, 3, 4, 9, 1,
-    2, 3, 4, 9, 1, 1, 3, 3, 9, 1, 2, 3, 4,
+// A party's state, by TX's names.
+#[derive(Clone, Copy, Debug, PartialEq, Eq)]
+pub(crate) enum State {
+    // not opened
+    S0,
+    // opened, in no transaction: unchained, chained
+    S1,
+    S2,
+    // in a transaction: unchained, chained
+    S3,
+    S4,
+}
+
+impl State {
+    // The column of the table.
+    fn number(self) -> usize
+        ensures { result ≡ state_number self }
+    {
+        self as usize
+    }
+
+    // The state at the control chained.
+    pub(crate) fn chained(self) -> State
+        ensures { result ≡ chained_of self }
+    {
+        match self {
+            S0 => S0,
+            S1 | S2 => S2,
+            S3 | S4 => S4,
+        }
+    }
+}
+
+// The kinds 1 to 9, rows of the table.
+#[derive(Clone, Copy, Debug, PartialEq, Eq)]
+pub(crate) enum TxCall {
+    Open,
+    Close,
+    Begin,
+    Commit,
+    Rollback,
+    Info,
+    SetCommitReturn,
+    SetTransactionControl,
+    SetTransactionTimeout,
+}
+
+impl TxCall {
+    // The row of the table.
+    fn row(self) -> usize
+        ensures { result ≡ call_number self - 1 }
+    {
+        self as usize
+    }
+}
+
+// The next state of each call in each state; a blank is None.
+const NEXT: [[Option<State>; 5]; 9] = [
+    // tx_open
+    [Some(S1), Some(S1), Some(S2), Some(S3), Some(S4)],
+    // tx_close
+    [Some(S0), Some(S0), Some(S0), None, None],
+    // tx_begin
+    [None, Some(S3), Some(S4), None, None],
+    // tx_commit
+    [None, None, None, Some(S1), Some(S4)],
+    // tx_rollback
+    [None, None, None, Some(S1), Some(S4)],
+    // tx_info
+    [None, Some(S1), Some(S2), Some(S3), Some(S4)],
+    // tx_set_commit_return
+    [None, Some(S1), Some(S2), Some(S3), Some(S4)],
+    // tx_set_transaction_control, at unchained
+    [None, Some(S1), Some(S1), Some(S3), Some(S3)],
+    // tx_set_transaction_timeout
+    [None, Some(S1), Some(S2), Some(S3), Some(S4)],
 ];
 
-// A blank of the table.
-pub const BLANK: u8 = 9;
-
-pub(crate) fn state_of(s: &[u32; WORDS], p: usize) -> usize
+pub(crate) fn state_of(s: &[u32; WORDS], p: usize) -> State
     requires { (p < 16) × ((view s.now).count ≤ 32) }
-    ensures { (result ≡ state_of (view s.now) p) × (result < 5) }
+    ensures { state_number result ≡ state_of (view s.now) p }
 {
     let q = party_at(s, p);
     if q.opened != 1 {
-        return 0;
+        return S0;
     }
     let t = tx_of(s, p);
-    if t == 0 {
-        if q.control == 1 {
-            return 2;
-        }
-        return 1;
+    match (t == 0, q.control == 1) {
+        (true, false) => S1,
+        (true, true) => S2,
+        (false, false) => S3,
+        (false, true) => S4,
     }
-    if q.control == 1 {
-        return 4;
-    }
-    3
 }
 
-pub(crate) fn next_state(k: usize, s: usize) -> u8
-    requires { (1 ≤ k) × (k ≤ 9) × (s < 5) }
-    ensures { (result ≡ next_of k s) × (result ≤ 9) }
+// The next state of party p's call.
+pub(crate) fn state_after(s: &[u32; WORDS], p: usize, call: TxCall) -> Option<State>
+    requires { (p < 16) × ((view s.now).count ≤ 32) }
+    ensures { next_number result ≡ next_of (call_number call) (state_of (view s.now) p) }
 {
-    NEXT[(k - 1) * 5 + s]
-}
-
-// The next state of party p's call of kind k.
-pub(crate) fn state_after(s: &[u32; WORDS], p: usize, k: usize) -> u8
-    requires { (p < 16) × ((view s.now).count ≤ 32) × (1 ≤ k) × (k ≤ 9) }
-    ensures { (result ≡ next_of k (state_of (view s.now) p)) × (result ≤ 9) }
-{
-    let before = state_of(s, p);
-    next_state(k, before)
-}
-
-pub(crate) fn opened_in(s: u8) -> u32
-    ensures { result ≡ pick (eqb s 0) 0 1 }
-{
-    if s == 0 {
-        return 0;
-    }
-    1
-}
-
-pub(crate) fn control_in(s: u8) -> u32
-    ensures { result ≡ pick (eqb s 2) 1 (pick (eqb s 4) 1 0) }
-{
-    if s == 2 {
-        return 1;
-    }
-    if s == 4 {
-        return 1;
-    }
-    0
+    NEXT[call.row()][state_of(s, p).number()]
 }
 
 // The party, with what the state says of its fields.
-pub(crate) fn in_state(q: Party, s: u8) -> Party
-    ensures { result ≡ in_state q s }
+pub(crate) fn in_state(q: Party, s: State) -> Party
+    ensures { result ≡ in_state q (state_number s) }
 {
-    let o = opened_in(s);
-    let c = control_in(s);
-    let mut k = q;
-    k.opened = o;
-    k.control = c;
-    k
+    match s {
+        S0 => Party {
+            opened: 0,
+            control: 0,
+            ..q
+        },
+        S1 | S3 => Party {
+            opened: 1,
+            control: 0,
+            ..q
+        },
+        S2 | S4 => Party {
+            opened: 1,
+            control: 1,
+            ..q
+        },
+    }
 }
 
 // Party p enters a state.
-pub(crate) fn enter(s: &mut [u32; WORDS], p: usize, state: u8)
+pub(crate) fn enter(s: &mut [u32; WORDS], p: usize, state: State)
     requires { (p < 16) × (length s.old ≡ words) }
-    ensures { (view s.new ≡ entered (view s.old) p state) × (length s.new ≡ words) }
+    ensures { (view s.new ≡ entered (view s.old) p (state_number state)) × (length s.new ≡ words) }
 {
     let q = party_at(&*s, p);
     let k = in_state(q, state);

@@ -1,12 +1,13 @@
 // One call: the questions before the kind's, the clock, the kind's rule, the answer's last field.
 ghost use Rattle.std.specs.Prelude.{◌≡◌, true, ◌<◌, ◌≤◌, length};
 ghost use Rattle.rules.specs.Sound.{sound};
-ghost use Rattle.rules.specs.Step.{rule_of, later_of, advanced, answered_to, call_of, step_of};
+ghost use Rattle.rules.specs.Step.{rule_of, advanced, answered_to, call_of, step_of};
+ghost use Rattle.monitor.specs.Kinds.{kind_number};
 ghost use Rattle.monitor.specs.Words.{words};
 ghost use Rattle.monitor.specs.View.{view, ruled_by, stepped, code_answer};
 
 use super::conversations::{tpdiscon, tprecv, tpsend};
-use super::links::coded;
+use super::kinds::Kind;
 use super::replies::{tpcancel, tpgetrply};
 use super::requests::{dispatch, tpacall, tpconnect};
 use super::returns::{terminate, tpreturn};
@@ -24,45 +25,36 @@ use super::{Stepped, Told};
 use rules::{Answer, Call, codes};
 
 // Each kind decides by its number.
-pub(crate) fn rule(s: &mut [u32; WORDS], p: usize, k: u32, a: u32, b: u32, c: u32) -> Told
+#[tactic(auto, using(crate::proofs::Laws::sound_room), unfolding(rules::specs::Step::rule_of, rules::specs::Choice::pick))]
+pub(crate) fn rule(s: &mut [u32; WORDS], p: usize, kind: Kind, a: u32, b: u32, c: u32) -> Told
     requires { (p < 16) × (sound (view s.old) ≡ true) × (length s.old ≡ words) }
-    ensures { (ruled_by result (view s.new) ≡ rule_of (view s.old) p k a b c) × (length s.new ≡ words) }
+    ensures { (ruled_by result (view s.new) ≡ rule_of (view s.old) p (kind_number kind) a b c) × (length s.new ≡ words) }
 {
-    match k {
-        1 => tx_open(&mut *s, p),
-        2 => tx_close(&mut *s, p),
-        3 => tx_begin(&mut *s, p),
-        4 => tx_commit(&mut *s, p),
-        5 => tx_rollback(&mut *s, p),
-        6 => tx_info(&*s, p),
-        7 => tx_set_commit_return(&*s, p, a),
-        8 => tx_set_transaction_control(&mut *s, p, a),
-        9 => tx_set_transaction_timeout(&mut *s, p, a),
-        10 => tpadvertise(&mut *s, p, a),
-        11 => tpunadvertise(&mut *s, p, a),
-        12 => tpacall(&mut *s, p, a, b, c),
-        13 => tpconnect(&mut *s, p, a, b, c),
-        14 => dispatch(&mut *s, p),
-        15 => tpgetrply(&mut *s, p, a, b),
-        16 => tpcancel(&mut *s, p, a),
-        17 => tpsend(&mut *s, p, a, b, c),
-        18 => tprecv(&mut *s, p, a),
-        19 => tpdiscon(&mut *s, p, a),
-        20 => tpreturn(&mut *s, p, a, c),
-        21 => terminate(&mut *s, p),
-        22 => report(&mut *s, p, a, b, c),
-        23 => set_rights(&mut *s, p, a, b, c),
-        0 | 24..=4294967295 => coded(codes::UNKNOWN_KIND),
+    match kind {
+        Kind::TxOpen => tx_open(&mut *s, p),
+        Kind::TxClose => tx_close(&mut *s, p),
+        Kind::TxBegin => tx_begin(&mut *s, p),
+        Kind::TxCommit => tx_commit(&mut *s, p),
+        Kind::TxRollback => tx_rollback(&mut *s, p),
+        Kind::TxInfo => tx_info(&*s, p),
+        Kind::TxSetCommitReturn => tx_set_commit_return(&*s, p, a),
+        Kind::TxSetTransactionControl => tx_set_transaction_control(&mut *s, p, a),
+        Kind::TxSetTransactionTimeout => tx_set_transaction_timeout(&mut *s, p, a),
+        Kind::TpAdvertise => tpadvertise(&mut *s, p, a),
+        Kind::TpUnadvertise => tpunadvertise(&mut *s, p, a),
+        Kind::TpACall => tpacall(&mut *s, p, a, b, c),
+        Kind::TpConnect => tpconnect(&mut *s, p, a, b, c),
+        Kind::Dispatch => dispatch(&mut *s, p),
+        Kind::TpGetRply => tpgetrply(&mut *s, p, a, b),
+        Kind::TpCancel => tpcancel(&mut *s, p, a),
+        Kind::TpSend => tpsend(&mut *s, p, a, b, c),
+        Kind::TpRecv => tprecv(&mut *s, p, a),
+        Kind::TpDiscon => tpdiscon(&mut *s, p, a),
+        Kind::TpReturn => tpreturn(&mut *s, p, a, c),
+        Kind::Terminate => terminate(&mut *s, p),
+        Kind::Report => report(&mut *s, p, a, b, c),
+        Kind::SetRights => set_rights(&mut *s, p, a, b, c),
     }
-}
-
-pub(crate) fn later(a: u32, b: u32) -> u32
-    ensures { result ≡ later_of a b }
-{
-    if a < b {
-        return b;
-    }
-    a
 }
 
 // The clock becomes the greater of its own and the call's.
@@ -70,9 +62,8 @@ pub(crate) fn advance(s: &mut [u32; WORDS], t: u32)
     requires { length s.old ≡ words }
     ensures { (view s.new ≡ advanced (view s.old) t) × (length s.new ≡ words) }
 {
-    let before = clock(&*s);
-    let after = later(before, t);
-    set_clock(&mut *s, after);
+    let now = clock(&*s);
+    set_clock(&mut *s, now.max(t));
 }
 
 // What a rule tells, with the caller's T afterwards.
@@ -110,16 +101,15 @@ pub(crate) fn call_on(s: &mut [u32; WORDS], c: Call) -> Answer
     requires { (sound (view s.old) ≡ true) × (length s.old ≡ words) }
     ensures { (stepped result (view s.new) ≡ call_of (view s.old) c) × (sound (view s.new) ≡ true) × (length s.new ≡ words) }
 {
-    let known = (1 <= c.kind) & (c.kind <= 23);
-    if !known {
+    let Ok(kind) = Kind::try_from(c.kind) else {
         return turn_down(codes::UNKNOWN_KIND);
-    }
+    };
     if c.party > 15 {
         return turn_down(codes::UNKNOWN_PARTY);
     }
     advance(&mut *s, c.clock);
     let p = c.party as usize;
-    let r = rule(&mut *s, p, c.kind, c.a, c.b, c.c);
+    let r = rule(&mut *s, p, kind, c.a, c.b, c.c);
     tell(&*s, r, p)
 }
 

@@ -1,5 +1,6 @@
 -- `states::enter` meets its contract.
 use Rattle.monitor.proofs.Usual.{ap, ◌∙◌, Party, with_party, in_state, entered, view}
+use Rattle.monitor.specs.States.{state_number}
 use Rattle.monitor.proofs.states.enter.Goals as goal
 
 pub returns : goal.returns
@@ -7,6 +8,6 @@ unfolding entered
 returns c =
     let a = c.args in (
       c.put_party.ensures.0
-          ∙ ap (with_party (view a.s.now) a.p) (c.in_state-k.ensures ∙ ap (λ (q : Party). in_state q a.state) c.party_at-q.ensures),
+          ∙ ap (with_party (view a.s.now) a.p) (c.in_state-k.ensures ∙ ap (λ (q : Party). in_state q (state_number a.state)) c.party_at-q.ensures),
       c.put_party.ensures.1,
     )

@@ -1,9 +1,15 @@
 -- `states::in_state` meets its contract.
-use Rattle.monitor.proofs.Usual.{with_settings, in_state}
+use Rattle.monitor.proofs.Usual.{in_state, pick, ⊎_elim}
 use Rattle.monitor.proofs.states.in_state.Goals as goal
 
-pub returns : goal.returns
-unfolding in_state
-returns c =
-    let q = c.args.q in
-    λ i. with_settings q (c.opened_in-o.ensures i) (c.control_in-c.ensures i) q.timeout q.services
+pub returns-in-S0 : goal.returns-in-S0
+unfolding in_state pick
+returns-in-S0 c = rw c.in-S0.is
+
+pub returns-in-S1 : goal.returns-in-S1
+unfolding in_state pick
+returns-in-S1 c = ⊎_elim (λ e. rw e) (λ e. rw e) c.in-S1.is
+
+pub returns-in-S2 : goal.returns-in-S2
+unfolding in_state pick
+returns-in-S2 c = ⊎_elim (λ e. rw e) (λ e. rw e) c.in-S2.is

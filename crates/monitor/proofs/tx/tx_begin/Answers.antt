@@ -3,23 +3,22 @@ use Rattle.monitor.proofs.Usual.{ℕ, ap, ap₂, sym, ◌∙◌, pick_true, pick
 use Rattle.monitor.proofs.Telling.{blank_told, passed_told, tx_left_lem, tx_spent}
 use Rattle.monitor.proofs.tx.tx_begin.Goals as goal
 
-pub returns-then-next-eq-BLANK : goal.returns-then-next-eq-BLANK
+pub returns-in_default : goal.returns-in_default
 unfolding begin_of
-returns-then-next-eq-BLANK c =
-    (blank_told _ _ _ _ _ c.state_after-next.ensures.0 c.coded.ensures c.if-next-eq-BLANK.true, c.requires.2)
+returns-in_default c = (blank_told _ _ _ _ c.coded.ensures c.in_default.ensures, c.requires.2)
 
-pub returns-then-last-ge-NUMBERS : goal.returns-then-last-ge-NUMBERS
+pub returns-then-last_tx-ge-NUMBERS : goal.returns-then-last_tx-ge-NUMBERS
 unfolding begin_of
-returns-then-last-ge-NUMBERS c =
-    let spent = tx_spent (view c.args.s.now) _ c.last_tx-last.ensures c.if-last-ge-NUMBERS.true in
-    (passed_told _ _ _ _ _ c.state_after-next.ensures.0 _ c.coded-then-last-ge-NUMBERS.ensures (sym (pick_false _ _ _ spent)) c.if-next-eq-BLANK.false, c.requires.2)
+returns-then-last_tx-ge-NUMBERS c =
+    let spent = tx_spent (view c.args.s.now) _ c.last_tx.ensures c.if-last_tx-ge-NUMBERS.true in
+    (passed_told _ _ _ _ c.in-Some.ensures _ _ c.coded-then-last_tx-ge-NUMBERS.ensures (sym (pick_false _ _ _ spent)), c.requires.2)
 
 pub returns : goal.returns
 unfolding begin_of
 returns c =
     let a = c.args in
-    let e = c.state_after-next.ensures.0 in
+    let e = c.in-Some.ensures in
     let n = c.enter.ensures in
-    let left = tx_left_lem (view a.s.now) _ c.last_tx-last.ensures c.if-last-ge-NUMBERS.false in
+    let left = tx_left_lem (view a.s.now) _ c.last_tx.ensures c.if-last_tx-ge-NUMBERS.false in
     let r = ap (λ (m : Monitor). ruled m tx_ok) (n.0 ∙ ap₂ (λ (m : Monitor) (s : ℕ). entered m a.p s) c.begin_tx.ensures.0 e) in
-    (passed_told _ _ _ _ _ e _ c.coded-2.ensures (r ∙ sym (pick_true _ _ _ left)) c.if-next-eq-BLANK.false, n.1)
+    (passed_told _ _ _ _ e _ _ c.coded-2.ensures (r ∙ sym (pick_true _ _ _ left)), n.1)

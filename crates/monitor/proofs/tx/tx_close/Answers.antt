@@ -3,17 +3,16 @@ use Rattle.monitor.proofs.Usual.{ap, ◌∙◌, Monitor, party, with_party, rule
 use Rattle.monitor.proofs.Telling.{blank_told, passed_told}
 use Rattle.monitor.proofs.tx.tx_close.Goals as goal
 
-pub returns-then-next-eq-BLANK : goal.returns-then-next-eq-BLANK
+pub returns-in_default : goal.returns-in_default
 unfolding close_of
-returns-then-next-eq-BLANK c =
-    (blank_told _ _ _ _ _ c.state_after-next.ensures.0 c.coded.ensures c.if-next-eq-BLANK.true, c.requires.2)
+returns-in_default c = (blank_told _ _ _ _ c.coded.ensures c.in_default.ensures, c.requires.2)
 
 pub returns : goal.returns
 unfolding close_of
 returns c =
     let a = c.args in
-    let e = c.state_after-next.ensures.0 in
+    let e = c.in-Some.ensures in
     let n = c.enter.ensures.0 ∙ ap (entered (view a.s.now) a.p) e in
     let k = c.set_timeout.ensures in
     let r = ap (λ (m : Monitor). ruled m tx_ok) (k.0 ∙ ap (λ (m : Monitor). with_party m a.p (with_timeout (party m a.p) 0)) n) in
-    (passed_told _ _ _ _ _ e _ c.coded-2.ensures r c.if-next-eq-BLANK.false, k.1)
+    (passed_told _ _ _ _ e _ _ c.coded-2.ensures r, k.1)

@@ -5,16 +5,15 @@ use Rattle.monitor.proofs.Usual.{not, ℕ, ◌≡◌, ap, ap₂, sym, ◌∙◌,
 use Rattle.monitor.proofs.Telling.{blank_told, stranger_told, owner_told, first_of_owned}
 use Rattle.monitor.proofs.tx.tx_commit.Goals as goal
 
-pub returns-then-next-eq-BLANK : goal.returns-then-next-eq-BLANK
+pub returns-in_default : goal.returns-in_default
 unfolding commit_of
-returns-then-next-eq-BLANK c =
-    (blank_told _ _ _ _ _ c.state_after-next.ensures.0 c.coded.ensures c.if-next-eq-BLANK.true, c.requires.2)
+returns-in_default c = (blank_told _ _ _ _ c.coded.ensures c.in_default.ensures, c.requires.2)
 
 pub returns-then-not-own : goal.returns-then-not-own
 unfolding commit_of
 returns-then-not-own c =
-    let e = c.state_after-next.ensures.0 in
-    (stranger_told _ _ _ _ _ e c.if-next-eq-BLANK.false _ c.is_owner-own.ensures c.coded-then-not-own.ensures (ap not c.if-not-own.true), c.requires.2)
+    let e = c.in-Some.ensures in
+    (stranger_told _ _ _ _ e _ _ c.is_owner-own.ensures c.coded-then-not-own.ensures (ap not c.if-not-own.true), c.requires.2)
 
 pub can_commit-can-requires : goal.can_commit-can-requires
 can_commit-can-requires c =
@@ -38,7 +37,7 @@ pub returns : goal.returns
 unfolding commit_of
 returns c =
     let a = c.args in
-    let e = c.state_after-next.ensures.0 in
+    let e = c.in-Some.ensures in
     let code = c.commit_code-code in
     let z : to_z w64 (of_z w64 code.result) ≡ code.result = search rules in
     let reports = c.reports_at-reports.ensures in
@@ -46,6 +45,6 @@ returns c =
     let codes = z ∙ code.ensures.0 ∙ ap₂ commit_code c.can_commit-can.ensures reports in (
       c.go_on.ensures.0
           ∙ (λ i. go_on (c.end_tx.ensures.0 i) a.p (e i) (starts i) (codes i))
-          ∙ owner_told _ _ _ _ _ e c.if-next-eq-BLANK.false _ c.is_owner-own.ensures (ap not c.if-not-own.false),
+          ∙ owner_told _ _ _ _ e _ _ c.is_owner-own.ensures (ap not c.if-not-own.false),
       c.go_on.ensures.1,
     )

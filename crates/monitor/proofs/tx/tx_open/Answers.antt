@@ -3,16 +3,15 @@ use Rattle.monitor.proofs.Usual.{ap, ◌∙◌, Monitor, ruled, entered, open_of
 use Rattle.monitor.proofs.Telling.{blank_told, passed_told}
 use Rattle.monitor.proofs.tx.tx_open.Goals as goal
 
-pub returns-then-next-eq-BLANK : goal.returns-then-next-eq-BLANK
+pub returns-in_default : goal.returns-in_default
 unfolding open_of
-returns-then-next-eq-BLANK c =
-    (blank_told _ _ _ _ _ c.state_after-next.ensures.0 c.coded.ensures c.if-next-eq-BLANK.true, c.requires.2)
+returns-in_default c = (blank_told _ _ _ _ c.coded.ensures c.in_default.ensures, c.requires.2)
 
 pub returns : goal.returns
 unfolding open_of
 returns c =
     let a = c.args in
-    let e = c.state_after-next.ensures.0 in
+    let e = c.in-Some.ensures in
     let n = c.enter.ensures in
     let r = ap (λ (m : Monitor). ruled m tx_ok) (n.0 ∙ ap (entered (view a.s.now) a.p) e) in
-    (passed_told _ _ _ _ _ e _ c.coded-2.ensures r c.if-next-eq-BLANK.false, n.1)
+    (passed_told _ _ _ _ e _ _ c.coded-2.ensures r, n.1)

@@ -3,16 +3,15 @@ use Rattle.monitor.proofs.Usual.{not, ℕ, refl, ap, ◌∙◌, inl, List, go_on
 use Rattle.monitor.proofs.Telling.{blank_told, stranger_told, owner_told, first_of_owned}
 use Rattle.monitor.proofs.tx.tx_rollback.Goals as goal
 
-pub returns-then-next-eq-BLANK : goal.returns-then-next-eq-BLANK
+pub returns-in_default : goal.returns-in_default
 unfolding rollback_of
-returns-then-next-eq-BLANK c =
-    (blank_told _ _ _ _ _ c.state_after-next.ensures.0 c.coded.ensures c.if-next-eq-BLANK.true, c.requires.2)
+returns-in_default c = (blank_told _ _ _ _ c.coded.ensures c.in_default.ensures, c.requires.2)
 
 pub returns-then-not-own : goal.returns-then-not-own
 unfolding rollback_of
 returns-then-not-own c =
-    let e = c.state_after-next.ensures.0 in
-    (stranger_told _ _ _ _ _ e c.if-next-eq-BLANK.false _ c.is_owner-own.ensures c.coded-then-not-own.ensures (ap not c.if-not-own.true), c.requires.2)
+    let e = c.in-Some.ensures in
+    (stranger_told _ _ _ _ e _ _ c.is_owner-own.ensures c.coded-then-not-own.ensures (ap not c.if-not-own.true), c.requires.2)
 
 pub end_tx-requires : goal.end_tx-requires
 end_tx-requires c =
@@ -28,6 +27,6 @@ pub returns : goal.returns
 unfolding rollback_of
 returns c =
     let a = c.args in
-    let e = c.state_after-next.ensures.0 in
+    let e = c.in-Some.ensures in
     let starts = c.all_can_start-start.ensures ∙ ap (λ (rs : List ℕ). all_can_start rs) c.reports_at-reports.ensures in
-    (c.go_on.ensures.0 ∙ (λ i. go_on (c.end_tx.ensures.0 i) a.p (e i) (starts i) tx_ok) ∙ owner_told _ _ _ _ _ e c.if-next-eq-BLANK.false _ c.is_owner-own.ensures (ap not c.if-not-own.false), c.go_on.ensures.1)
+    (c.go_on.ensures.0 ∙ (λ i. go_on (c.end_tx.ensures.0 i) a.p (e i) (starts i) tx_ok) ∙ owner_told _ _ _ _ e _ _ c.is_owner-own.ensures (ap not c.if-not-own.false), c.go_on.ensures.1)

@@ -3,15 +3,15 @@ use Rattle.monitor.proofs.Usual.{sym, ◌∙◌, eq-eqb, ne_eqb, le-leb, lt-leb,
 use Rattle.monitor.proofs.Telling.{blank_told, passed_told}
 use Rattle.monitor.proofs.tx.tx_set_commit_return.Goals as goal
 
-pub returns-then-next-eq-BLANK : goal.returns-then-next-eq-BLANK
+pub returns-in_default : goal.returns-in_default
 unfolding commit_return_of
-returns-then-next-eq-BLANK c = blank_told _ _ _ _ _ c.state_after-next.ensures.0 c.coded.ensures c.if-next-eq-BLANK.true
+returns-in_default c = blank_told _ _ _ _ c.coded.ensures c.in_default.ensures
 
 pub returns-then-a-gt1 : goal.returns-then-a-gt1
 unfolding commit_return_of
 returns-then-a-gt1 c =
     let bad = lt-leb _ _ c.if-a-gt1.true in
-    passed_told _ _ _ _ _ c.state_after-next.ensures.0 _ c.coded-then-a-gt1.ensures (sym (pick_false _ _ _ bad)) c.if-next-eq-BLANK.false
+    passed_told _ _ _ _ c.in-Some.ensures _ _ c.coded-then-a-gt1.ensures (sym (pick_false _ _ _ bad))
 
 pub returns-then-a-eq0 : goal.returns-then-a-eq0
 unfolding commit_return_of
@@ -19,7 +19,7 @@ returns-then-a-eq0 c =
     let good = le-leb _ _ c.if-a-gt1.false in
     let zero = eq-eqb _ _ c.if-a-eq0.true in
     let r = sym (pick_true _ _ _ good ∙ pick_true _ _ _ zero) in
-    passed_told _ _ _ _ _ c.state_after-next.ensures.0 _ c.coded-then-a-eq0.ensures r c.if-next-eq-BLANK.false
+    passed_told _ _ _ _ c.in-Some.ensures _ _ c.coded-then-a-eq0.ensures r
 
 pub returns : goal.returns
 unfolding commit_return_of
@@ -27,4 +27,4 @@ returns c =
     let good = le-leb _ _ c.if-a-gt1.false in
     let one = ne_eqb _ _ c.if-a-eq0.false in
     let r = sym (pick_true _ _ _ good ∙ pick_false _ _ _ one) in
-    passed_told _ _ _ _ _ c.state_after-next.ensures.0 _ c.coded-2.ensures r c.if-next-eq-BLANK.false
+    passed_told _ _ _ _ c.in-Some.ensures _ _ c.coded-2.ensures r

@@ -3,20 +3,19 @@ use Rattle.monitor.proofs.Usual.{ap, sym, ◌∙◌, le-leb, lt-leb, pick_true, 
 use Rattle.monitor.proofs.Telling.{blank_told, passed_told}
 use Rattle.monitor.proofs.tx.tx_set_transaction_timeout.Goals as goal
 
-pub returns-then-next-eq-BLANK : goal.returns-then-next-eq-BLANK
+pub returns-in_default : goal.returns-in_default
 unfolding timeout_of
-returns-then-next-eq-BLANK c =
-    (blank_told _ _ _ _ _ c.state_after-next.ensures.0 c.coded.ensures c.if-next-eq-BLANK.true, c.requires.2)
+returns-in_default c = (blank_told _ _ _ _ c.coded.ensures c.in_default.ensures, c.requires.2)
 
 pub returns-then-a-gt-TIMEOUT : goal.returns-then-a-gt-TIMEOUT
 unfolding timeout_of
 returns-then-a-gt-TIMEOUT c =
     let bad = lt-leb _ _ c.if-a-gt-TIMEOUT.true in
-    (passed_told _ _ _ _ _ c.state_after-next.ensures.0 _ c.coded-then-a-gt-TIMEOUT.ensures (sym (pick_false _ _ _ bad)) c.if-next-eq-BLANK.false, c.requires.2)
+    (passed_told _ _ _ _ c.in-Some.ensures _ _ c.coded-then-a-gt-TIMEOUT.ensures (sym (pick_false _ _ _ bad)), c.requires.2)
 
 pub returns : goal.returns
 unfolding timeout_of
 returns c =
     let n = c.set_timeout.ensures in
     let r = ap (λ (m : Monitor). ruled m tx_ok) n.0 ∙ sym (pick_true _ _ _ (le-leb _ _ c.if-a-gt-TIMEOUT.false)) in
-    (passed_told _ _ _ _ _ c.state_after-next.ensures.0 _ c.coded-2.ensures r c.if-next-eq-BLANK.false, n.1)
+    (passed_told _ _ _ _ c.in-Some.ensures _ _ c.coded-2.ensures r, n.1)
