@@ -39,13 +39,13 @@ pub returns-else-start-left : goal.returns-else-start-left
 unfolding go_on
 returns-else-start-left c =
     let a = c.args in
-    let n = c.enter-in-S4.ensures in
-    let b = c.no_begin-less in
+    let n = c.enter-else-start-left.ensures in
+    let b = c.no_begin in
     let z : to_z w64 (of_z w64 a.code) ≡ a.code = search rules in
     let r : to_z w64 (of_z w64 b.result) ≡ b.result = search rules in
     let spent = sym (ap (λ (t : ℕ). a.start && ltb t 60000) c.last_tx-left.ensures) ∙ c.if-start-left.false in
     let chained = ap (λ (s : State). eqb (state_number s) 4) c.in-S4.is in (
-      code_told _ c.coded-in-S4.ensures
+      code_told _ c.coded-else-start-left.ensures
           ∙ ap₂ ruled n.0 (r ∙ b.ensures ∙ ap no_begin z)
           ∙ sym (pick_true _ _ _ chained ∙ pick_false _ _ _ spent),
       n.1,
