@@ -1,71 +1,126 @@
--- A loop that looks for the first that passes a test, over the links there are or over the parties.
+-- What a search finds: the first place that passes a test, among the links there are or among the parties.
 -- Assumes nothing.
-use Prim.Native.Nat.{ℕ, suc, ◌+◌, ◌≤◌, ◌<◌}
-use mathlib.Core.Path.{◌≡◌, ap, sym, ◌∙◌}
-use mathlib.Core.List.{List, ◌∷◌}
+use Rattle.std.specs.Prelude.{Option, Some, None, is_some, unwrap_or}
+use Rattle.std.proofs.lemmas.Bool.{cases_lt}
+use Prim.Native.Nat.{ℕ, zero, suc, ◌+◌, ◌-◌, ◌≤◌, ◌<◌}
+use mathlib.Core.Path.{◌≡◌, refl, ap, sym, subst, ◌∙◌}
+use mathlib.Core.List.{List, [], ◌∷◌}
+use mathlib.Core.Logic.{⊎_elim}
 use mathlib.Core.Bool.{Bool, true, false}
 use native.Mathlib.Omega.{arith}
-use borrow.Author.Tests.{lt-ltb, le-ltb}
-use lib.ListN.{length, drop, drop_of_length-le}
+use borrow.Author.Tests.{lt-ltb, le-ltb, ltb-true, ltb-false}
+use lib.Dec.{ltb}
+use lib.ListN.{length, drop}
 use Rattle.rules.specs.declared.Party.{Party}
 use Rattle.rules.specs.declared.Link.{Link}
 use Rattle.rules.specs.Lists.{first_of, any_of}
 use Rattle.rules.specs.Record.{live, party}
-use Rattle.rules.proofs.Logic.{pick_true, pick_false}
-use Rattle.monitor.specs.View.{view, link_in}
-use Rattle.monitor.proofs.Lists.{first_within, first_past, any_first}
+use Rattle.rules.proofs.Logic.{pick_true, pick_false, test}
+use Rattle.monitor.specs.View.{view, link_in, first_place, place_among, tests_link, tests_party}
+use Rattle.monitor.proofs.Lists.{first_within, any_first}
 use Rattle.monitor.proofs.Laws.{next_live, live_long, next_party, parties_long}
 
--- the loop has come to the place i of the n of the list s, which `at` reads, and none before it passes the test f
-pub record Search {A : Type 0} (f : A → Bool) (s : List A) (at : ℕ → A) (n i : ℕ) : Type 0 where
-  pub inside : i ≤ n
-  pub long : length s ≡ n
-  pub next : (j : ℕ) → j < n → drop j s ≡ at j ∷ drop (j + 1) s
-  pub none : first_of f s ≡ i + first_of f (drop i s)
+-- ---- the loop: of the places from one on up to another, one more
+pub one_more : {P : ℕ → Type 0} {from i : ℕ} → ((k : ℕ) → from ≤ k → k < i → P k) → P i → (k : ℕ) → from ≤ k → k < i + 1 → P k
+one_more {P = P} {i = i} h x k a b = ⊎_elim (h k a) (λ c. let e : i ≡ k = omega arith in subst P e x) (cases_lt k i)
 
-module _ {A : Type 0} {f : A → Bool} {s : List A} {at : ℕ → A} {n i : ℕ} (g : Search f s at n i) where
-  -- the test at the place i, by the x that was read there and what was asked of it
-  pub tested : {x : A} {b c : Bool} → x ≡ at i → b ≡ f x → b ≡ c → f (at i) ≡ c
-  tested r t e = ap f (sym r) ∙ sym t ∙ e
+-- ---- in a list, by the place of the first that passes
+module _ {A : Type 0} (f : A → Bool) where
+  -- what stands there is the first of the rest
+  stands : (k : ℕ) (s : List A) → k ≤ first_of f s → first_of f s ≡ k + first_of f (drop k s)
+  unfolding first_of
+  stands zero s h = omega arith
+  stands (suc k) [] h = omega arith
+  stands (suc k) (x ∷ s) h = test (f x)
+      (λ e. let z : first_of f (x ∷ s) ≡ 0 = pick_true _ _ _ e in omega arith)
+      (λ e. let z : first_of f (x ∷ s) ≡ suc (first_of f s) = pick_false _ _ _ e in
+      let r : first_of f s ≡ k + first_of f (drop (suc k) (x ∷ s)) = stands k s (omega arith) in
+      omega arith)
 
-  -- it passes, or the next place comes
-  module _ (k : i < n) where
-    pub found_first : f (at i) ≡ true → i ≡ first_of f s
+  -- the list s that `at` reads
+  module _ (s : List A) (at : ℕ → A) (next : (j : ℕ) → j < length s → drop j s ≡ at j ∷ drop (j + 1) s) where
+    passes : (i : ℕ) → i < length s → i ≤ first_of f s → f (at i) ≡ true → first_of f s ≡ i
     unfolding first_of
-    found_first t = let z : first_of f (drop i s) ≡ 0 = ap (first_of f) (g.next i k) ∙ pick_true _ _ _ t in omega arith
+    passes i k h t =
+        let z : first_of f (drop i s) ≡ 0 = ap (first_of f) (next i k) ∙ pick_true _ _ _ t in
+        let r = stands i s h in
+        omega arith
 
-    pub found_any : f (at i) ≡ true → true ≡ any_of f s
-    found_any t = let e = found_first t in sym (any_first f s ∙ lt-ltb (first_of f s) (length s) (omega arith))
-
-    pub passed : f (at i) ≡ false → Search f s at n (i + 1)
+    fails : (i : ℕ) → i < length s → i ≤ first_of f s → f (at i) ≡ false → i + 1 ≤ first_of f s
     unfolding first_of
-    passed t =
-        let z : first_of f (drop i s) ≡ suc (first_of f (drop (i + 1) s)) = ap (first_of f) (g.next i k) ∙ pick_false _ _ _ t in
-        record { inside = omega arith; long = g.long; next = g.next; none = omega arith }
+    fails i k h t =
+        let z : first_of f (drop i s) ≡ suc (first_of f (drop (i + 1) s)) = ap (first_of f) (next i k) ∙ pick_false _ _ _ t in
+        let r = stands i s h in
+        omega arith
 
-  -- past the last: none does
-  module _ (k : n ≤ i) where
-    pub none_first : n ≡ first_of f s
-    unfolding first_of
-    none_first = let z : first_of f (drop i s) ≡ 0 = ap (first_of f) (drop_of_length-le s {i = i} (omega arith)) in omega arith
+    all_fail : (from d : ℕ) → from ≤ first_of f s → from + d ≤ length s → ((k : ℕ) → from ≤ k → k < from + d → f (at k) ≡ false) → from + d ≤ first_of f s
+    all_fail from zero h b each = omega arith
+    all_fail from (suc d) h b each =
+        let r = fails (from + d) (omega arith) (all_fail from d h (omega arith) (λ k a c. each k a (omega arith))) (each (from + d) (omega arith) (omega arith)) in
+        omega arith
 
-    pub none_any : false ≡ any_of f s
-    none_any = let e = none_first in sym (any_first f s ∙ le-ltb (first_of f s) (length s) (omega arith))
+    module _ {tested : ℕ → Bool → Type 0} {from n : ℕ} (e : n ≡ length s) (h : from ≤ first_of f s)
+        (asks : (i : ℕ) (b : Bool) → i < n → tested i b → b ≡ f (at i)) where
+      failing : (i : ℕ) → from ≤ i → i ≤ n → ((k : ℕ) → from ≤ k → k < i → tested k false) → i ≤ first_of f s
+      failing i a b each =
+          let r = all_fail from (i - from) h (omega arith) (λ k c d. sym (asks k false (omega arith) (each k c (omega arith)))) in
+          omega arith
 
--- ---- over the links there are
-abbrev pub LinkSearch : (Link → Bool) → List ℕ → ℕ → ℕ → Type 0
-LinkSearch f xs len i = Search f (live (view xs)) (link_in (view xs)) len i
+      pub found_place : (r : Option ℕ) → first_place tested from n r → r ≡ place_among n (first_of f s)
+      found_place None none =
+          let w = first_within f s in
+          let r = failing n (omega arith) (omega arith) none in
+          sym (pick_false _ _ _ (le-ltb (first_of f s) n (omega arith)))
+      found_place (Some i) found =
+          let r = passes i (omega (arith, found.1)) (failing i found.0 (omega (arith, found.1)) found.3) (sym (asks i true found.1 found.2)) in
+          sym (ap (place_among n) r ∙ pick_true _ _ _ (lt-ltb i n found.1))
 
-module _ (f : Link → Bool) (xs : List ℕ) {len : ℕ} (e : len ≡ (view xs).count) (h : (view xs).count ≤ 32) where
-  pub search_links : LinkSearch f xs len 0
-  search_links = record { inside = omega arith; long = live_long xs h ∙ sym e; next = λ j k. next_live xs j h (omega arith); none = omega arith }
+-- ---- among the links there are, and among the parties
+pub found_link : (xs : List ℕ) {tested : ℕ → Bool → Type 0} {from n : ℕ} {r : Option ℕ} → (view xs).count ≤ 32 → n ≡ (view xs).count → first_place tested from n r
+    → (f : Link → Bool) → from ≤ first_of f (live (view xs)) → tests_link tested f (view xs) → r ≡ place_among (view xs).count (first_of f (live (view xs)))
+found_link xs {r = r} h e found f low asks =
+    let l = live_long xs h in
+    found_place f (live (view xs)) (link_in (view xs)) (λ j k. next_live xs j h (omega arith)) (e ∙ sym l) low (λ i b k t. asks i b (omega arith) t) r found
+    ∙ ap (λ (m : ℕ). place_among m (first_of f (live (view xs)))) e
 
-  -- from the first that passes a test which all that pass f do
-  pub search_links_from : (a : Link → Bool) → ((x : Link) → a x ≡ false → f x ≡ false) → {i : ℕ} → i ≡ first_of a (live (view xs)) → LinkSearch f xs len i
-  search_links_from a fails p =
-      let long = live_long xs h in
-      let low = first_within a (live (view xs)) in
-      record { inside = omega arith; long = search_links.long; next = search_links.next; none = first_past f a fails (live (view xs)) p }
+pub found_party : {tested : ℕ → Bool → Type 0} {r : Option ℕ} → first_place tested 0 16 r
+    → (f : Party → Bool) (xs : List ℕ) → tests_party tested f (view xs) → r ≡ place_among 16 (first_of f (view xs).parties)
+found_party {r = r} found f xs asks =
+    let l = parties_long 16 0 xs in
+    found_place f (view xs).parties (party (view xs)) (λ j k. next_party xs j (omega arith)) (sym l) (omega arith) asks r found
+
+-- ---- what it says of the place
+or_past : (n k : ℕ) {r : Option ℕ} → r ≡ place_among n k → k ≤ n → unwrap_or r n ≡ k
+or_past n k e h = ap (λ (o : Option ℕ). unwrap_or o n) e ∙ test (ltb k n)
+    (λ t. ap (λ (o : Option ℕ). unwrap_or o n) (pick_true _ _ _ t))
+    (λ t. let g = ltb-false k n t in let z : n ≡ k = omega arith in ap (λ (o : Option ℕ). unwrap_or o n) (pick_false _ _ _ t) ∙ z)
+
+is_there : (n k : ℕ) {r : Option ℕ} → r ≡ place_among n k → is_some r ≡ ltb k n
+is_there n k e = ap is_some e ∙ test (ltb k n)
+    (λ t. ap is_some (pick_true _ _ _ t) ∙ sym t)
+    (λ t. ap is_some (pick_false _ _ _ t) ∙ sym t)
+
+-- of the links
+module _ (xs : List ℕ) (f : Link → Bool) (h : (view xs).count ≤ 32) {r : Option ℕ} (e : r ≡ place_among (view xs).count (first_of f (live (view xs)))) where
+  pub link_or_past : {n : ℕ} → n ≡ (view xs).count → unwrap_or r n ≡ first_of f (live (view xs))
+  link_or_past c =
+      let l = live_long xs h in
+      let w = first_within f (live (view xs)) in
+      ap (unwrap_or r) c ∙ or_past _ _ e (omega arith)
+
+  pub link_there : is_some r ≡ any_of f (live (view xs))
+  link_there = is_there _ _ e ∙ ap (ltb (first_of f (live (view xs)))) (sym (live_long xs h)) ∙ sym (any_first f (live (view xs)))
+
+-- of the parties
+module _ (xs : List ℕ) (f : Party → Bool) {r : Option ℕ} (e : r ≡ place_among 16 (first_of f (view xs).parties)) where
+  pub party_or_past : unwrap_or r 16 ≡ first_of f (view xs).parties
+  party_or_past =
+      let l = parties_long 16 0 xs in
+      let w = first_within f (view xs).parties in
+      or_past _ _ e (omega arith)
+
+  pub party_there : is_some r ≡ any_of f (view xs).parties
+  party_there = is_there _ _ e ∙ ap (ltb (first_of f (view xs).parties)) (sym (parties_long 16 0 xs)) ∙ sym (any_first f (view xs).parties)
 
 -- what was found, the place i, says whether one passes: past the n links none does, and among them one does
 module _ (xs : List ℕ) (f : Link → Bool) {i n : ℕ} (e : i ≡ first_of f (live (view xs))) (h : (view xs).count ≤ 32) (g : n ≡ (view xs).count) where
@@ -74,10 +129,3 @@ module _ (xs : List ℕ) (f : Link → Bool) {i n : ℕ} (e : i ≡ first_of f (
 
   pub one_passes : i < n → any_of f (live (view xs)) ≡ true
   one_passes k = let l = live_long xs h in any_first f (live (view xs)) ∙ lt-ltb (first_of f (live (view xs))) (length (live (view xs))) (omega arith)
-
--- ---- over the parties
-abbrev pub PartySearch : (Party → Bool) → List ℕ → ℕ → Type 0
-PartySearch f xs i = Search f (view xs).parties (party (view xs)) 16 i
-
-pub search_parties : (f : Party → Bool) (xs : List ℕ) → PartySearch f xs 0
-search_parties f xs = record { inside = omega arith; long = parties_long 16 0 xs; next = next_party xs; none = omega arith }

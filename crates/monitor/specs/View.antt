@@ -1,6 +1,6 @@
 -- The record of document 01 read off its words, every one of them, and what a rule tells beside it.
 -- Assumes nothing.
-use Rattle.std.specs.Prelude.{ℕ, zero, suc, ◌-◌, ◌<◌, ◌≡◌, Bool, List, [], ◌∷◌, eqb, ltb, length, get_or, drop, ℤ}
+use Rattle.std.specs.Prelude.{ℕ, zero, suc, ◌-◌, ◌<◌, ◌≤◌, ◌≡◌, Bool, true, false, List, [], ◌∷◌, Option, Some, None, MatchOption, eqb, ltb, length, get_or, drop, ℤ}
 use Rattle.std.proofs.Math.Seq.{paste}
 use Rattle.rules.specs.declared.Party.{Party}
 use Rattle.rules.specs.declared.Link.{Link}
@@ -10,7 +10,7 @@ use Rattle.rules.specs.declared.Answer.{Answer}
 use Rattle.rules.specs.declared.Stepped.{Stepped}
 use Rattle.rules.specs.Choice.{pick, same}
 use Rattle.rules.specs.Codes.{tp_accepted}
-use Rattle.rules.specs.Record.{fresh_link, blanks, live, with_links, replaced}
+use Rattle.rules.specs.Record.{fresh_link, blanks, party, live, with_links, replaced}
 use Rattle.rules.specs.Transaction.{owner_of}
 use Rattle.monitor.specs.Words.{words, read_link, read_party}
 use Rattle.monitor.specs.declared.Told.{Told}
@@ -55,6 +55,25 @@ live_owner ps t = pick (eqb t 0) 16 (owner_of ps t)
 -- is this a link of the transaction t
 unfoldable pub of_tx : ℕ → Link → Bool
 of_tx t l = same l.tx t
+
+-- ---- what a search finds
+-- the first place from one up to another that the code's test passes, or none
+abbrev pub first_place : (ℕ → Bool → Type 0) → ℕ → ℕ → Option ℕ → Type 0
+first_place tested from to found =
+    MatchOption found
+    ((k : ℕ) → from ≤ k → k < to → tested k false)
+    (λ i. (from ≤ i) × (i < to) × tested i true × ((k : ℕ) → from ≤ k → k < i → tested k false))
+
+-- the place k where it is one of n, and none past them
+abbrev pub place_among : ℕ → ℕ → Option ℕ
+place_among n k = pick (ltb k n) (Some k) None
+
+-- the code's test asks of each place what f asks of the link, or of the party, that stands there
+abbrev pub tests_link : (ℕ → Bool → Type 0) → (Link → Bool) → Monitor → Type 0
+tests_link tested f m = (i : ℕ) (b : Bool) → i < 32 → tested i b → b ≡ f (link_in m i)
+
+abbrev pub tests_party : (ℕ → Bool → Type 0) → (Party → Bool) → Monitor → Type 0
+tests_party tested f m = (i : ℕ) (b : Bool) → i < 16 → tested i b → b ≡ f (party m i)
 
 -- ---- parts of the record changed
 -- the link at the place i, if there is one, becomes l

@@ -14,6 +14,7 @@ mod requests;
 mod returns;
 mod rights;
 mod run;
+mod searches;
 mod services;
 mod sound;
 mod states;

@@ -10,6 +10,7 @@ ghost use Rattle.monitor.specs.View.{view, link_in, ruled_by};
 
 use super::Told;
 use super::links::{accept, close_end, coded, is_own_end, place_of, remove_at};
+use super::searches::first_link;
 use super::transaction::is_expired;
 use super::words::{
     WORDS, attached_at, count, kind_at, link_at, originator_at, put_link, state_at, tx_at,
@@ -90,16 +91,7 @@ pub(crate) fn first_request_end(s: &[u32; WORDS], p: usize) -> usize
     requires { (view s.now).count ≤ 32 }
     ensures { result ≡ first_of (request_end p) (live (view s.now)) }
 {
-    let len = count(s);
-    let mut i = 0;
-    while i < len {
-        let own = is_request_end_at(s, p, i);
-        if own {
-            return i;
-        }
-        i += 1;
-    }
-    len
+    first_link(s, 0, |i| is_request_end_at(s, p, i)).unwrap_or(count(s))
 }
 
 // Is the link at the place i an open request end of party p's, of an expired transaction?
@@ -120,16 +112,7 @@ pub(crate) fn has_expired_end(s: &[u32; WORDS], p: usize, from: usize) -> bool
     requires { ((view s.now).count ≤ 32) × (from ≡ first_of (request_end p) (live (view s.now))) }
     ensures { result ≡ any_of (expired_end (view s.now) p) (live (view s.now)) }
 {
-    let len = count(s);
-    let mut i = from;
-    while i < len {
-        let late = is_expired_end(s, p, i);
-        if late {
-            return true;
-        }
-        i += 1;
-    }
-    false
+    first_link(s, from, |i| is_expired_end(s, p, i)).is_some()
 }
 
 // Is the link at the place i an open request end of party p's, with its reply there?
@@ -148,16 +131,7 @@ pub(crate) fn next_reply(s: &[u32; WORDS], p: usize, from: usize) -> usize
     requires { ((view s.now).count ≤ 32) × (from ≡ first_of (request_end p) (live (view s.now))) }
     ensures { result ≡ next_reply (view s.now) p }
 {
-    let len = count(s);
-    let mut i = from;
-    while i < len {
-        let there = is_replied_end(s, p, i);
-        if there {
-            return i;
-        }
-        i += 1;
-    }
-    len
+    first_link(s, from, |i| is_replied_end(s, p, i)).unwrap_or(count(s))
 }
 
 // Whichever reply is there.

@@ -9,6 +9,7 @@ ghost use Rattle.monitor.specs.View.{view, ruled_by};
 
 use super::Told;
 use super::links::{accept, coded, has_own_end};
+use super::searches::first_link;
 use super::services::{in_set, is_offered, is_offering, is_service};
 use super::transaction::{is_late_at, live_owner, tx_of};
 use super::words::{
@@ -241,17 +242,7 @@ pub(crate) fn next_waiting(s: &[u32; WORDS], p: usize) -> usize
     ensures { result ≡ next_waiting (view s.now) p }
 {
     let q = party_at(s, p);
-    let len = count(s);
-    let mut i = 0;
-    while i < len {
-        let l = link_at(s, i);
-        let waits = is_for(q, l);
-        if waits {
-            return i;
-        }
-        i += 1;
-    }
-    len
+    first_link(s, 0, |i| is_for(q, link_at(s, i))).unwrap_or(count(s))
 }
 
 pub(crate) fn dispatch_event(l: Link) -> u32
