@@ -1,6 +1,7 @@
 -- A sweep over the live links in place: what f makes of each, at most one, is moved to the front; then the room past the last is
 -- blanked and the count set.
 -- Assumes nothing.
+use Rattle.std.specs.Prelude.{Option, Some, None, option_to_list}
 use Prim.Native.Nat.{ℕ, suc, ◌+◌, ◌-◌, ◌≤◌, ◌<◌}
 use mathlib.Core.Path.{◌≡◌, refl, ap, sym, ◌∙◌}
 use mathlib.Core.Bool.{Bool, false}
@@ -10,15 +11,14 @@ use native.Mathlib.Omega.{arith}
 use lib.ListN.{length, take, drop, get_or, set, get_or-replicate, length-drop, take-append-drop, drop_of_length-le}
 use lib.Seq.{paste, paste-zero, paste-suc, take-suc-set, drop-set-lt, drop-drop, get_or-drop, length-take-le, take-take}
 use Rattle.rules.specs.declared.Link.{Link}
-use Rattle.rules.specs.declared.Party.{Party}
 use Rattle.rules.specs.declared.Monitor.{Monitor}
 use Rattle.rules.specs.Lists.{first_of, collect}
-use Rattle.rules.specs.Record.{fresh_link, blanks, live, with_contents, with_parties, with_links, with_count, rebuilt, replaced}
+use Rattle.rules.specs.Record.{fresh_link, blanks, live, with_contents, with_links, with_count, rebuilt, replaced}
 use Rattle.rules.proofs.Logic.{pick_true, pick_false, test}
 use Rattle.monitor.specs.Words.{words}
-use Rattle.monitor.specs.View.{link_in, blanked, view}
+use Rattle.monitor.specs.View.{link_in, blanked, view, keeps_before}
 use Rattle.monitor.proofs.Lists.{first_within, collect_more}
-use Rattle.monitor.proofs.Laws.{links_long}
+use Rattle.monitor.proofs.Laws.{links_long, live_long}
 
 -- ---- the loop that blanks
 blanks_long : length blanks ≡ 32
@@ -69,27 +69,29 @@ keep_first_law xs ys zs n h a b =
     let r = room_left ls n 32 h past ∙ ap (λ (m : ℕ). take n ls ++ drop m blanks) c in
     b ∙ ap (λ (m : Monitor). with_count m n) a ∙ (λ z. with_contents (view xs) (view xs).parties (r z) (c z))
 
--- ---- the loop that moves, of the numbers ws at first and xs now, at the place i, with j links moved so far; what is no link is h's
-pub record Sweeps (f : Link → List Link) (ws : List ℕ) (h : Monitor) (xs : List ℕ) (i j : ℕ) : Type 0 where
+-- ---- the loop that moves, of the numbers ws at first and xs now, at the place i, with j links moved so far
+pub record Sweeps (f : Link → List Link) (ws xs : List ℕ) (i j : ℕ) : Type 0 where
   pub long : length xs ≡ words
   pub room : (view ws).count ≤ 32
   pub inside : i ≤ (view ws).count
   pub behind : j ≤ i
-  -- the first j links are what f made of the first i
+  -- the first j links are what f left of the first i
   pub front : take j (view xs).links ≡ collect f (take i (view ws).links)
   -- those from i on are as at first
   pub rest : drop i (view xs).links ≡ drop i (view ws).links
-  pub other : view xs ≡ with_links h (view xs).links
+  pub other : view xs ≡ with_links (view ws) (view xs).links
 
--- it starts at a place before which f keeps each
-pub sweep_start : (f : Link → List Link) (ws : List ℕ) (i : ℕ) → length ws ≡ words → (view ws).count ≤ 32 → i ≤ (view ws).count
-    → collect f (take i (view ws).links) ≡ take i (view ws).links → Sweeps f ws (view ws) ws i i
-sweep_start f ws i n r h e = record { long = n; room = r; inside = h; behind = omega arith; front = sym e; rest = refl; other = refl }
+-- it starts at a place before which f leaves each as it is
+pub sweep_start : (ws : List ℕ) (i : ℕ) → length ws ≡ words → (view ws).count ≤ 32 → i ≤ (view ws).count
+    → (f : Link → List Link) → keeps_before f (view ws) i → Sweeps f ws ws i i
+sweep_start ws i n r h f e =
+    let t : take i (live (view ws)) ≡ take i (view ws).links = take-take i (view ws).count (view ws).links h in
+    record { long = n; room = r; inside = h; behind = omega arith; front = sym (ap (collect f) (sym t) ∙ e ∙ t); rest = refl; other = refl }
 
-module _ {f : Link → List Link} {ws : List ℕ} {h : Monitor} {xs : List ℕ} {i j : ℕ} (g : Sweeps f ws h xs i j) where
-  -- the link at the place i
+module _ {f : Link → List Link} {ws xs : List ℕ} {i j : ℕ} (g : Sweeps f ws xs i j) where
+  -- the link at the place i, of which o is left
   module _ (k : i < (view ws).count) {l : Link} (r : l ≡ link_in (view xs) i) where
-    pub as_first : l ≡ link_in (view ws) i
+    as_first : l ≡ link_in (view ws) i
     as_first =
         let z : i + 0 ≡ i = omega arith in
         r
@@ -99,25 +101,26 @@ module _ {f : Link → List Link} {ws : List ℕ} {h : Monitor} {xs : List ℕ} 
         ∙ get_or-drop i (view ws).links 0 fresh_link
         ∙ ap (link_in (view ws)) z
 
-    more : collect f (take (i + 1) (view ws).links) ≡ take j (view xs).links ++ f l
-    more =
+    more : (o : Option Link) → option_to_list o ≡ f l → collect f (take (i + 1) (view ws).links) ≡ take j (view xs).links ++ option_to_list o
+    more o q =
         let e = links_long 32 0 ws in
         collect_more f (view ws).links fresh_link i (omega arith)
         ∙ ap (λ (x : List Link). x ++ f (get_or (view ws).links i fresh_link)) (sym g.front)
         ∙ ap (λ (x : Link). take j (view xs).links ++ f x) (sym as_first)
+        ∙ ap (λ (x : List Link). take j (view xs).links ++ x) (sym q)
 
     rest_more : drop (i + 1) (view xs).links ≡ drop (i + 1) (view ws).links
     rest_more = sym (drop-drop 1 i (view xs).links) ∙ ap (drop 1) g.rest ∙ drop-drop 1 i (view ws).links
 
-    -- it goes
-    pub sweep_drop : f l ≡ [] → Sweeps f ws h xs (i + 1) j
-    sweep_drop q =
-        let e = more ∙ ap (λ (x : List Link). take j (view xs).links ++ x) q ∙ append-nil (take j (view xs).links) in
+    -- nothing
+    pub sweep_drop : {o : Option Link} → option_to_list o ≡ f l → o ≡ None → Sweeps f ws xs (i + 1) j
+    sweep_drop q z =
+        let e = more _ q ∙ ap (λ (x : Option Link). take j (view xs).links ++ option_to_list x) z ∙ append-nil (take j (view xs).links) in
         record { long = g.long; room = g.room; inside = omega arith; behind = omega arith; front = sym e; rest = rest_more; other = g.other }
 
-    -- it stays, or becomes another: x is put at the place j
-    pub sweep_put : {x : Link} (ys : List ℕ) → (view ys ≡ replaced (view xs) j x) × (length ys ≡ words) → f l ≡ x ∷ [] → Sweeps f ws h ys (i + 1) (j + 1)
-    sweep_put {x} ys p q =
+    -- x, which is put at the place j
+    pub sweep_put : {o : Option Link} {x : Link} → option_to_list o ≡ f l → o ≡ Some x → (ys : List ℕ) → (view ys ≡ replaced (view xs) j x) × (length ys ≡ words) → Sweeps f ws ys (i + 1) (j + 1)
+    sweep_put {x = x} q z ys p =
         let ls : List Link = (view xs).links in
         let o : (view ys).links ≡ set ls j x = ap (λ (m : Monitor). m.links) p.0 in
         let e = links_long 32 0 xs in
@@ -127,53 +130,38 @@ module _ {f : Link → List Link} {ws : List ℕ} {h : Monitor} {xs : List ℕ} 
           room = g.room;
           inside = omega arith;
           behind = omega arith;
-          front = ap (take (j + 1)) o ∙ t ∙ ap (λ (y : List Link). take j ls ++ y) (sym q) ∙ sym more;
+          front = ap (take (j + 1)) o ∙ t ∙ sym (more _ q ∙ ap (λ (y : Option Link). take j ls ++ option_to_list y) z);
           rest = ap (drop (i + 1)) o ∙ drop-set-lt (i + 1) ls j x (omega arith) ∙ rest_more;
-          other = p.0 ∙ ap (λ (m : Monitor). with_links m (set ls j x)) g.other ∙ ap (with_links h) (sym o);
+          other = p.0 ∙ ap (λ (m : Monitor). with_links m (set ls j x)) g.other ∙ ap (with_links (view ws)) (sym o);
         }
 
-  -- parties change on the way
-  pub sweep_parties : {ps : List Party} (ys : List ℕ) → (view ys ≡ with_parties (view xs) ps) × (length ys ≡ words) → Sweeps f ws (with_parties h ps) ys i j
-  sweep_parties {ps} ys p =
-      let o : (view ys).links ≡ (view xs).links = ap (λ (m : Monitor). m.links) p.0 in
-      record {
-        long = p.1;
-        room = g.room;
-        inside = g.inside;
-        behind = g.behind;
-        front = ap (take j) o ∙ g.front;
-        rest = ap (drop i) o ∙ g.rest;
-        other = p.0 ∙ ap (λ (m : Monitor). with_parties m ps) g.other ∙ ap (with_links (with_parties h ps)) (sym o);
-      }
-
   -- the end: the first j links are kept
-  pub swept : (ys : List ℕ) → i ≡ (view ws).count → view ys ≡ rebuilt (view xs) (take j (view xs).links) → view ys ≡ rebuilt h (collect f (live (view ws)))
+  pub swept : (ys : List ℕ) → i ≡ (view ws).count → view ys ≡ rebuilt (view xs) (take j (view xs).links) → view ys ≡ rebuilt (view ws) (collect f (live (view ws)))
   swept ys e k =
       k
       ∙ ap (rebuilt (view xs)) (g.front ∙ ap (λ (m : ℕ). collect f (take m (view ws).links)) e)
       ∙ ap (λ (m : Monitor). rebuilt m (collect f (live (view ws)))) g.other
 
--- ---- before the first that passes the test a, f keeps each, where f keeps each that does not pass it
-kept_before : (f : Link → List Link) (a : Link → Bool) → ((x : Link) → a x ≡ false → f x ≡ x ∷ []) → (l : List Link)
+-- ---- before the first that passes the test a, f leaves each as it is, where it does so with each that does not pass
+kept_up_to : (f : Link → List Link) (a : Link → Bool) → ((x : Link) → a x ≡ false → f x ≡ x ∷ []) → (l : List Link)
     → collect f (take (first_of a l) l) ≡ take (first_of a l) l
 unfolding first_of collect
-kept_before f a keeps [] = refl
-kept_before f a keeps (x ∷ l) = test (a x)
+kept_up_to f a keeps [] = refl
+kept_up_to f a keeps (x ∷ l) = test (a x)
     (λ e. let zero-th = pick_true (a x) 0 (suc (first_of a l)) e in
     ap (λ (k : ℕ). collect f (take k (x ∷ l))) zero-th ∙ ap (λ (k : ℕ). take k (x ∷ l)) (sym zero-th))
     (λ e. ap (λ (k : ℕ). collect f (take k (x ∷ l))) (pick_false (a x) 0 (suc (first_of a l)) e)
     ∙ ap (λ (r : List Link). r ++ collect f (take (first_of a l) l)) (keeps x e)
-    ∙ ap (λ (r : List Link). x ∷ r) (kept_before f a keeps l)
+    ∙ ap (λ (r : List Link). x ∷ r) (kept_up_to f a keeps l)
     ∙ ap (λ (k : ℕ). take k (x ∷ l)) (sym (pick_false (a x) 0 (suc (first_of a l)) e)))
 
--- a sweep starts at the first that passes the test
-pub sweep_first : (f : Link → List Link) (a : Link → Bool) → ((x : Link) → a x ≡ false → f x ≡ x ∷ []) → (ws : List ℕ) (at : ℕ) → length ws ≡ words
-    → (view ws).count ≤ 32 → at ≡ first_of a (live (view ws)) → Sweeps f ws (view ws) ws at at
-sweep_first f a keeps ws at n h e =
-    let l : List Link = live (view ws) in
-    let long = links_long 32 0 ws in
-    let k = first_within a l in
-    let c : length l ≡ (view ws).count = length-take-le (view ws).count (view ws).links (omega arith) in
-    let t : take at l ≡ take at (view ws).links = take-take at (view ws).count (view ws).links (omega arith) in
-    let kept = ap (λ (i : ℕ). collect f (take i l)) e ∙ kept_before f a keeps l ∙ ap (λ (i : ℕ). take i l) (sym e) in
-    sweep_start f ws at n h (omega arith) (ap (collect f) (sym t) ∙ kept ∙ t)
+pub kept_before : (f : Link → List Link) (a : Link → Bool) → ((x : Link) → a x ≡ false → f x ≡ x ∷ []) → (l : List Link) {at : ℕ} → at ≡ first_of a l
+    → collect f (take at l) ≡ take at l
+kept_before f a keeps l e = ap (λ (i : ℕ). collect f (take i l)) e ∙ kept_up_to f a keeps l ∙ ap (λ (i : ℕ). take i l) (sym e)
+
+-- it is one of the places there are, or past the last
+pub first_inside : (xs : List ℕ) (a : Link → Bool) {at : ℕ} → (view xs).count ≤ 32 → at ≡ first_of a (live (view xs)) → at ≤ (view xs).count
+first_inside xs a h e =
+    let k = first_within a (live (view xs)) in
+    let l = live_long xs h in
+    omega arith

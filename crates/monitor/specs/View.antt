@@ -1,6 +1,6 @@
 -- The record of document 01 read off its words, every one of them, and what a rule tells beside it.
 -- Assumes nothing.
-use Rattle.std.specs.Prelude.{ℕ, zero, suc, ◌-◌, ◌<◌, ◌≤◌, ◌≡◌, Bool, true, false, List, [], ◌∷◌, Option, Some, None, MatchOption, eqb, ltb, length, get_or, drop, ℤ}
+use Rattle.std.specs.Prelude.{ℕ, zero, suc, ◌-◌, ◌<◌, ◌≤◌, ◌≡◌, Bool, true, false, List, [], ◌∷◌, Option, Some, None, MatchOption, option_to_list, eqb, ltb, length, get_or, take, drop, ℤ}
 use Rattle.std.proofs.Math.Seq.{paste}
 use Rattle.rules.specs.declared.Party.{Party}
 use Rattle.rules.specs.declared.Link.{Link}
@@ -9,6 +9,7 @@ use Rattle.rules.specs.declared.Ruled.{Ruled}
 use Rattle.rules.specs.declared.Answer.{Answer}
 use Rattle.rules.specs.declared.Stepped.{Stepped}
 use Rattle.rules.specs.Choice.{pick, same}
+use Rattle.rules.specs.Lists.{collect}
 use Rattle.rules.specs.Codes.{tp_accepted}
 use Rattle.rules.specs.Record.{fresh_link, blanks, party, live, with_links, replaced}
 use Rattle.rules.specs.Transaction.{owner_of}
@@ -74,6 +75,15 @@ tests_link tested f m = (i : ℕ) (b : Bool) → i < 32 → tested i b → b ≡
 
 abbrev pub tests_party : (ℕ → Bool → Type 0) → (Party → Bool) → Monitor → Type 0
 tests_party tested f m = (i : ℕ) (b : Bool) → i < 16 → tested i b → b ≡ f (party m i)
+
+-- ---- what a sweep leaves
+-- f leaves each link before the place `from` as it is
+abbrev pub keeps_before : (Link → List Link) → Monitor → ℕ → Type 0
+keeps_before f m from = collect f (take from (live m)) ≡ take from (live m)
+
+-- what the code leaves of a link is what f leaves of it
+abbrev pub leaves : (Link → Option Link → Type 0) → (Link → List Link) → Type 0
+leaves left f = (l : Link) (r : Option Link) → left l r → option_to_list r ≡ f l
 
 -- ---- parts of the record changed
 -- the link at the place i, if there is one, becomes l

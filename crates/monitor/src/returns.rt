@@ -1,17 +1,19 @@
 // Kinds 20 and 21: a service returns, and a party dies.
-ghost use Rattle.std.specs.Prelude.{◌≡◌, ◌<◌, ◌≤◌, length};
-ghost use Rattle.rules.specs.Record.{is_server_free};
-ghost use Rattle.rules.specs.Return.{plain_outcome, outcome_of, unread_after, close_own, end_own, rollback_only_served, serves_none, ending_of, hand_back, leave, return_with, return_of, died_out, after_death, terminate_of};
+ghost use Rattle.std.specs.Prelude.{◌≡◌, ◌<◌, ◌≤◌, length, option_to_list};
+ghost use Rattle.rules.specs.Lists.{first_of};
+ghost use Rattle.rules.specs.Record.{is_server_free, own_end, live, with_parties};
+ghost use Rattle.rules.specs.Return.{plain_outcome, outcome_of, unread_after, close_end, rollback_only_by, close_own, end_own, rollback_only_served, serves_none, ending_of, hand_back, leave, return_with, return_of, died_out, after_death, terminate_of};
 ghost use Rattle.monitor.specs.Words.{words};
 ghost use Rattle.monitor.specs.View.{view, ruled_by};
 
 use super::Told;
+use super::conversations::is_originator_end;
 use super::links::{
     accept, change_at, close_end, coded, disconnect_link, drop_unread, first_own, has_own_end,
-    is_own_end, keep_first, live_at, place_of, remove_at,
+    is_own_end, live_at, place_of, remove_at, sweep,
 };
 use super::transaction::{end_tx, first_of_tx, set_rollback_only};
-use super::words::{WORDS, count, link_at, owned_at, party_at, put_link, put_party, served_at};
+use super::words::{WORDS, count, link_at, owned_at, party_at, put_party, served_at};
 use rules::{Link, Party, codes};
 
 // Is the server the sender, with no grant under way?
@@ -69,43 +71,49 @@ pub(crate) fn unread_after(o: u32, l: Link) -> Link
     l
 }
 
+// The transactions of party p's own conversations become rollback-only; the first of its own links stands at the place `from`.
+pub(crate) fn mark_own(s: &mut [u32; WORDS], p: usize, from: usize)
+    requires { ((view s.old).count ≤ 32) × (length s.old ≡ words) × (from ≡ first_of (own_end p) (live (view s.old))) }
+    ensures { (view s.new ≡ with_parties (view s.old) (rollback_only_by p (live (view s.old)) (view s.old).parties)) × (length s.new ≡ words) }
+{
+    for i in from..count(&*s) {
+        let l = link_at(&*s, i);
+        let own = is_originator_end(p, l);
+        if !own {
+            continue;
+        }
+        set_rollback_only(&mut *s, l.tx);
+    }
+}
+
+// What is left of a link as party p's own close.
+pub(crate) fn left_closed(p: usize, l: Link) -> Option<Link>
+    ensures { option_to_list result ≡ close_end p l }
+{
+    let own = is_own_end(p, l);
+    if !own {
+        return Some(l);
+    }
+    if l.kind == 1 {
+        if l.state == 1 {
+            return Some(disconnect_link(l));
+        }
+        return None;
+    }
+    if l.state == 2 {
+        return None;
+    }
+    Some(close_end(l))
+}
+
 // Party p's own links close.
 pub(crate) fn close_own(s: &mut [u32; WORDS], p: usize)
     requires { ((view s.old).count ≤ 32) × (length s.old ≡ words) }
     ensures { (view s.new ≡ close_own (view s.old) p) × (length s.new ≡ words) × ((view s.new).count ≤ 32) }
 {
     let from = first_own(&*s, p);
-    let len = count(&*s);
-    let mut i = from;
-    let mut j = from;
-    while i < len {
-        let l = link_at(&*s, i);
-        let own = is_own_end(p, l);
-        if !own {
-            put_link(&mut *s, j, l);
-            i += 1;
-            j += 1;
-        } else if l.kind == 1 {
-            if l.state == 1 {
-                let k = disconnect_link(l);
-                put_link(&mut *s, j, k);
-                set_rollback_only(&mut *s, l.tx);
-                i += 1;
-                j += 1;
-            } else {
-                set_rollback_only(&mut *s, l.tx);
-                i += 1;
-            }
-        } else if l.state == 2 {
-            i += 1;
-        } else {
-            let k = close_end(l);
-            put_link(&mut *s, j, k);
-            i += 1;
-            j += 1;
-        }
-    }
-    keep_first(&mut *s, j);
+    mark_own(&mut *s, p, from);
+    sweep(&mut *s, from, |l| left_closed(p, l));
 }
 
 // Its own transaction, if any, ends without a new one.
