@@ -90,6 +90,18 @@ found_party {r = r} found f xs asks =
     found_place f (view xs).parties (party (view xs)) (λ j k. next_party xs j (omega arith)) (sym l) (omega arith) asks r found
 
 -- ---- what it says of the place
+-- one was found: it is the place, and among the n
+pub found_some : (n k : ℕ) {r : Option ℕ} {i : ℕ} → r ≡ place_among n k → r ≡ Some i → (i ≡ k) × (i < n)
+found_some n k {i = i} e s = test (ltb k n)
+    (λ t. let z : i ≡ k = ap (λ (o : Option ℕ). unwrap_or o i) (sym s ∙ e ∙ pick_true _ _ _ t) in let g = ltb-true k n t in (z, omega arith))
+    (λ t. let z : ◌≡◌ {A = Option ℕ} (Some i) None = sym s ∙ e ∙ pick_false _ _ _ t in cc)
+
+-- none was: it is past the last
+pub found_none : (n k : ℕ) {r : Option ℕ} → r ≡ place_among n k → r ≡ None → n ≤ k
+found_none n k e s = test (ltb k n)
+    (λ t. let z : ◌≡◌ {A = Option ℕ} (Some k) None = sym (pick_true _ _ _ t) ∙ sym e ∙ s in cc)
+    (λ t. ltb-false k n t)
+
 or_past : (n k : ℕ) {r : Option ℕ} → r ≡ place_among n k → k ≤ n → unwrap_or r n ≡ k
 or_past n k e h = ap (λ (o : Option ℕ). unwrap_or o n) e ∙ test (ltb k n)
     (λ t. ap (λ (o : Option ℕ). unwrap_or o n) (pick_true _ _ _ t))
@@ -122,10 +134,10 @@ module _ (xs : List ℕ) (f : Party → Bool) {r : Option ℕ} (e : r ≡ place_
   pub party_there : is_some r ≡ any_of f (view xs).parties
   party_there = is_there _ _ e ∙ ap (ltb (first_of f (view xs).parties)) (sym (parties_long 16 0 xs)) ∙ sym (any_first f (view xs).parties)
 
--- what was found, the place i, says whether one passes: past the n links none does, and among them one does
-module _ (xs : List ℕ) (f : Link → Bool) {i n : ℕ} (e : i ≡ first_of f (live (view xs))) (h : (view xs).count ≤ 32) (g : n ≡ (view xs).count) where
-  pub none_passes : n ≤ i → any_of f (live (view xs)) ≡ false
-  none_passes k = let l = live_long xs h in any_first f (live (view xs)) ∙ le-ltb (first_of f (live (view xs))) (length (live (view xs))) (omega arith)
+-- of the links, whether one passes
+module _ (xs : List ℕ) (f : Link → Bool) (h : (view xs).count ≤ 32) {r : Option ℕ} (e : r ≡ place_among (view xs).count (first_of f (live (view xs)))) where
+  pub none_passes : r ≡ None → any_of f (live (view xs)) ≡ false
+  none_passes s = sym (link_there xs f h e) ∙ ap is_some s
 
-  pub one_passes : i < n → any_of f (live (view xs)) ≡ true
-  one_passes k = let l = live_long xs h in any_first f (live (view xs)) ∙ lt-ltb (first_of f (live (view xs))) (length (live (view xs))) (omega arith)
+  pub one_passes : {i : ℕ} → r ≡ Some i → any_of f (live (view xs)) ≡ true
+  one_passes s = sym (link_there xs f h e) ∙ ap is_some s

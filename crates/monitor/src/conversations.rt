@@ -7,9 +7,9 @@ ghost use Rattle.monitor.specs.Words.{words};
 ghost use Rattle.monitor.specs.View.{view, ruled_by};
 
 use super::Told;
-use super::links::{accept, coded, disconnect_link, is_own_end, place_of, remove_at};
+use super::links::{accept, coded, disconnect_link, find_link, is_own_end, remove_at};
 use super::transaction::{is_expired, set_rollback_only};
-use super::words::{WORDS, count, link_at, put_link};
+use super::words::{WORDS, link_at, put_link};
 use rules::{Link, codes};
 
 // Is it an open conversation end of party p's, as its originator?
@@ -170,11 +170,9 @@ pub(crate) fn tpsend(s: &mut [u32; WORDS], p: usize, a: u32, b: u32, c: u32) -> 
     requires { ((view s.old).count ≤ 32) × (length s.old ≡ words) }
     ensures { (ruled_by result (view s.new) ≡ send_of (view s.old) p a b c) × (length s.new ≡ words) }
 {
-    let i = place_of(&*s, a);
-    let len = count(&*s);
-    if len <= i {
+    let Some(i) = find_link(&*s, a) else {
         return coded(codes::NO_SUCH_END);
-    }
+    };
     let l = link_at(&*s, i);
     send_on(&mut *s, p, i, a, b, c, l)
 }
@@ -267,11 +265,9 @@ pub(crate) fn tprecv(s: &mut [u32; WORDS], p: usize, a: u32) -> Told
     requires { ((view s.old).count ≤ 32) × (length s.old ≡ words) }
     ensures { (ruled_by result (view s.new) ≡ receive_of (view s.old) p a) × (length s.new ≡ words) }
 {
-    let i = place_of(&*s, a);
-    let len = count(&*s);
-    if len <= i {
+    let Some(i) = find_link(&*s, a) else {
         return coded(codes::NO_SUCH_END);
-    }
+    };
     let l = link_at(&*s, i);
     receive_on(&mut *s, p, i, a, l)
 }
@@ -294,11 +290,9 @@ pub(crate) fn tpdiscon(s: &mut [u32; WORDS], p: usize, a: u32) -> Told
     requires { ((view s.old).count ≤ 32) × (length s.old ≡ words) }
     ensures { (ruled_by result (view s.new) ≡ disconnect_of (view s.old) p a) × (length s.new ≡ words) }
 {
-    let i = place_of(&*s, a);
-    let len = count(&*s);
-    if len <= i {
+    let Some(i) = find_link(&*s, a) else {
         return coded(codes::NO_SUCH_END);
-    }
+    };
     let l = link_at(&*s, i);
     let own = is_originator_end(p, l);
     if !own {

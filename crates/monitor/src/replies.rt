@@ -6,14 +6,14 @@ ghost use Rattle.rules.specs.Replies.{request_end, outcome_code, fetched, fetch_
 ghost use Rattle.rules.specs.Replies.{cancelled, cancel_of};
 ghost use Rattle.rules.specs.Sound.{sound};
 ghost use Rattle.monitor.specs.Words.{words};
-ghost use Rattle.monitor.specs.View.{view, link_in, ruled_by};
+ghost use Rattle.monitor.specs.View.{view, link_in, place_among, ruled_by};
 
 use super::Told;
-use super::links::{accept, close_end, coded, is_own_end, place_of, remove_at};
+use super::links::{accept, close_end, coded, find_link, is_own_end, remove_at};
 use super::searches::first_link;
 use super::transaction::is_expired;
 use super::words::{
-    WORDS, attached_at, count, kind_at, link_at, originator_at, put_link, state_at, tx_at,
+    WORDS, attached_at, kind_at, link_at, originator_at, put_link, state_at, tx_at,
 };
 use rules::{Link, codes};
 
@@ -55,11 +55,9 @@ pub(crate) fn fetch_one(s: &mut [u32; WORDS], p: usize, a: u32) -> Told
     requires { (sound (view s.old) ≡ true) × (length s.old ≡ words) }
     ensures { (ruled_by result (view s.new) ≡ fetch_one (view s.old) p a) × (length s.new ≡ words) }
 {
-    let i = place_of(&*s, a);
-    let len = count(&*s);
-    if len <= i {
+    let Some(i) = find_link(&*s, a) else {
         return coded(codes::NO_SUCH_END);
-    }
+    };
     let l = link_at(&*s, i);
     let own = is_request_end(p, l);
     if !own {
@@ -86,12 +84,12 @@ pub(crate) fn is_request_end_at(s: &[u32; WORDS], p: usize, i: usize) -> bool
     (kind == 0) & ((attached == 1) & (originator as usize == p))
 }
 
-// The place of party p's first open request end, or how many links there are.
-pub(crate) fn first_request_end(s: &[u32; WORDS], p: usize) -> usize
+// The place of party p's first open request end.
+pub(crate) fn first_request_end(s: &[u32; WORDS], p: usize) -> Option<usize>
     requires { (view s.now).count ≤ 32 }
-    ensures { result ≡ first_of (request_end p) (live (view s.now)) }
+    ensures { result ≡ place_among (view s.now).count (first_of (request_end p) (live (view s.now))) }
 {
-    first_link(s, 0, |i| is_request_end_at(s, p, i)).unwrap_or(count(s))
+    first_link(s, 0, |i| is_request_end_at(s, p, i))
 }
 
 // Is the link at the place i an open request end of party p's, of an expired transaction?
@@ -125,13 +123,12 @@ pub(crate) fn is_replied_end(s: &[u32; WORDS], p: usize, i: usize) -> bool
     own & (state == 2)
 }
 
-// The place of party p's returned request with the lowest number, or how many links there are. The first of its ends
-// stands at the place `from`.
-pub(crate) fn next_reply(s: &[u32; WORDS], p: usize, from: usize) -> usize
+// The place of party p's returned request with the lowest number. The first of its ends stands at the place `from`.
+pub(crate) fn next_reply(s: &[u32; WORDS], p: usize, from: usize) -> Option<usize>
     requires { ((view s.now).count ≤ 32) × (from ≡ first_of (request_end p) (live (view s.now))) }
-    ensures { result ≡ next_reply (view s.now) p }
+    ensures { result ≡ place_among (view s.now).count (next_reply (view s.now) p) }
 {
-    first_link(s, from, |i| is_replied_end(s, p, i)).unwrap_or(count(s))
+    first_link(s, from, |i| is_replied_end(s, p, i))
 }
 
 // Whichever reply is there.
@@ -139,19 +136,16 @@ pub(crate) fn fetch_any(s: &mut [u32; WORDS], p: usize) -> Told
     requires { (sound (view s.old) ≡ true) × (length s.old ≡ words) }
     ensures { (ruled_by result (view s.new) ≡ fetch_any (view s.old) p) × (length s.new ≡ words) }
 {
-    let from = first_request_end(&*s, p);
-    let len = count(&*s);
-    if len <= from {
+    let Some(from) = first_request_end(&*s, p) else {
         return coded(codes::NO_SUCH_END);
-    }
+    };
     let late = has_expired_end(&*s, p, from);
     if late {
         return coded(codes::TIMED_OUT);
     }
-    let next = next_reply(&*s, p, from);
-    if len <= next {
+    let Some(next) = next_reply(&*s, p, from) else {
         return coded(codes::NO_REPLY_YET);
-    }
+    };
     let l = link_at(&*s, next);
     fetch(&mut *s, next, l.number, l, l.number)
 }
@@ -188,11 +182,9 @@ pub(crate) fn tpcancel(s: &mut [u32; WORDS], p: usize, a: u32) -> Told
     requires { ((view s.old).count ≤ 32) × (length s.old ≡ words) }
     ensures { (ruled_by result (view s.new) ≡ cancel_of (view s.old) p a) × (length s.new ≡ words) }
 {
-    let i = place_of(&*s, a);
-    let len = count(&*s);
-    if len <= i {
+    let Some(i) = find_link(&*s, a) else {
         return coded(codes::NO_SUCH_END);
-    }
+    };
     let l = link_at(&*s, i);
     let own = is_request_end(p, l);
     if !own {

@@ -5,7 +5,7 @@ ghost use Rattle.rules.specs.Record.{added, valued, new_link};
 ghost use Rattle.rules.specs.Requests.{no_reply, no_tran, recv_only, connect_flags, link_tx, link_left, ask_link, request_of, connect_of, is_idle, fits};
 ghost use Rattle.rules.specs.Requests.{dispatch_event, dispatched, next_waiting, dispatch_of};
 ghost use Rattle.monitor.specs.Words.{words};
-ghost use Rattle.monitor.specs.View.{view, ruled_by};
+ghost use Rattle.monitor.specs.View.{view, place_among, ruled_by};
 
 use super::Told;
 use super::links::{accept, coded, has_own_end};
@@ -236,13 +236,13 @@ pub(crate) fn is_for(q: Party, l: Link) -> bool
     (l.state == 0) & has
 }
 
-// The place of the waiting link with the lowest number, or how many links there are.
-pub(crate) fn next_waiting(s: &[u32; WORDS], p: usize) -> usize
+// The place of the waiting link with the lowest number.
+pub(crate) fn next_waiting(s: &[u32; WORDS], p: usize) -> Option<usize>
     requires { (p < 16) × ((view s.now).count ≤ 32) }
-    ensures { result ≡ next_waiting (view s.now) p }
+    ensures { result ≡ place_among (view s.now).count (next_waiting (view s.now) p) }
 {
     let q = party_at(s, p);
-    first_link(s, 0, |i| is_for(q, link_at(s, i))).unwrap_or(count(s))
+    first_link(s, 0, |i| is_for(q, link_at(s, i)))
 }
 
 pub(crate) fn dispatch_event(l: Link) -> u32
@@ -288,11 +288,9 @@ pub(crate) fn dispatch(s: &mut [u32; WORDS], p: usize) -> Told
     if !idle {
         return coded(codes::NOT_ALLOWED_NOW);
     }
-    let i = next_waiting(&*s, p);
-    let len = count(&*s);
-    if i < len {
-        let l = link_at(&*s, i);
-        return dispatch_at(&mut *s, p, i, l);
-    }
-    coded(codes::NOTHING_WAITING)
+    let Some(i) = next_waiting(&*s, p) else {
+        return coded(codes::NOTHING_WAITING);
+    };
+    let l = link_at(&*s, i);
+    dispatch_at(&mut *s, p, i, l)
 }

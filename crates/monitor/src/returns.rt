@@ -111,7 +111,8 @@ pub(crate) fn close_own(s: &mut [u32; WORDS], p: usize)
     requires { ((view s.old).count ≤ 32) × (length s.old ≡ words) }
     ensures { (view s.new ≡ close_own (view s.old) p) × (length s.new ≡ words) × ((view s.new).count ≤ 32) }
 {
-    let from = first_own(&*s, p);
+    // The sweep starts past the last link where there is none: it blanks the room all the same.
+    let from = first_own(&*s, p).unwrap_or(count(&*s));
     mark_own(&mut *s, p, from);
     sweep(&mut *s, from, |l| left_closed(p, l));
 }

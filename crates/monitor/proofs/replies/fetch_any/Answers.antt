@@ -1,6 +1,6 @@
 -- `replies::fetch_any` meets its contract.
 use Rattle.monitor.proofs.Usual.{ℕ, ◌≤◌, ◌<◌, ◌≡◌, ap, sym, ◌∙◌, List, Bool, true, not, arith, rules, ltb, lt-ltb, le-ltb, get_or, Link, Monitor, Ruled, fresh_link, is_returned, live, ask, timed_out, no_reply_yet}
-use Rattle.monitor.proofs.Usual.{request_end, replied_end, fetch_any, view, link_in, live_at, pick_true, pick_false, live_long, sound_room, read_live, read_first, read_ended}
+use Rattle.monitor.proofs.Usual.{request_end, replied_end, fetch_any, view, link_in, live_at, pick_true, pick_false, live_long, sound_room, read_live, read_first, read_ended, found_some, found_none}
 use Rattle.rules.specs.Replies.{next_reply, fetched_any}
 use Rattle.rules.proofs.Changes.{place_fits}
 use Rattle.rules.proofs.History.Walk.Replies.{replied_returned}
@@ -19,70 +19,64 @@ found-returned xs p h e k r =
     let fits = place_fits (replied_end p) (live (view xs)) (omega arith) in
     ap (λ (x : Link). is_returned x) (read_live xs _ h k r ∙ ap (live_at (view xs)) e) ∙ replied_returned p _ fits
 
-pub first_request_end-from-requires : goal.first_request_end-from-requires
-first_request_end-from-requires c = search (rules, sound_room)
+pub first_request_end-requires : goal.first_request_end-requires
+first_request_end-requires c = search (rules, sound_room)
 
-pub returns-then-len-from : goal.returns-then-len-from
+pub returns-in_default : goal.returns-in_default
 unfolding fetch_any
-returns-then-len-from c =
-    let first = c.first_request_end-from.ensures in
-    let none = none_passes c.args.s.now (request_end c.args.p) first (sound_room _ c.requires.0) c.count-len.ensures c.if-len-from.true in
+returns-in_default c =
+    let none = none_passes c.args.s.now (request_end c.args.p) (sound_room _ c.requires.0) c.first_request_end.ensures c.in_default.is in
     (refused c.coded.ensures (pick_false _ _ _ none), c.requires.1)
 
 pub has_expired_end-late-requires : goal.has_expired_end-late-requires
-has_expired_end-late-requires c = search (rules, sound_room)
+has_expired_end-late-requires c = (sound_room _ c.requires.0, (found_some _ _ c.first_request_end.ensures c.in-Some.is).0)
 
 pub returns-then-late : goal.returns-then-late
 unfolding fetch_any
 returns-then-late c =
     let some_end : let a = c.args in let m = view a.s.now in fetch_any m a.p ≡ ask m (not c.has_expired_end-late.result) timed_out (rest m a.p) = let m = view c.args.s.now in
-    let first = c.first_request_end-from.ensures in
-    let one = one_passes c.args.s.now (request_end c.args.p) first (sound_room _ c.requires.0) c.count-len.ensures (omega (arith, c.if-len-from.false)) in
+    let one = one_passes c.args.s.now (request_end c.args.p) (sound_room _ c.requires.0) c.first_request_end.ensures c.in-Some.is in
     pick_true _ _ _ one ∙ ap (λ (late : Bool). ask m (not late) timed_out (rest m c.args.p)) (sym c.has_expired_end-late.ensures) in
     (refused c.coded-then-late.ensures (some_end ∙ pick_false _ _ _ (ap not c.if-late.true)), c.requires.1)
 
-pub next_reply-next-requires : goal.next_reply-next-requires
-next_reply-next-requires c = search (rules, sound_room)
+pub next_reply-requires : goal.next_reply-requires
+next_reply-requires c = (sound_room _ c.requires.0, (found_some _ _ c.first_request_end.ensures c.in-Some.is).0)
 
-pub returns-then-len-next : goal.returns-then-len-next
+pub returns-in_default-next_reply : goal.returns-in_default-next_reply
 unfolding fetch_any
-returns-then-len-next c =
+returns-in_default-next_reply c =
     let some_end : let a = c.args in let m = view a.s.now in fetch_any m a.p ≡ ask m (not c.has_expired_end-late.result) timed_out (rest m a.p) = let m = view c.args.s.now in
-    let first = c.first_request_end-from.ensures in
-    let one = one_passes c.args.s.now (request_end c.args.p) first (sound_room _ c.requires.0) c.count-len.ensures (omega (arith, c.if-len-from.false)) in
+    let one = one_passes c.args.s.now (request_end c.args.p) (sound_room _ c.requires.0) c.first_request_end.ensures c.in-Some.is in
     pick_true _ _ _ one ∙ ap (λ (late : Bool). ask m (not late) timed_out (rest m c.args.p)) (sym c.has_expired_end-late.ensures) in
     let none-late : let a = c.args in let m = view a.s.now in fetch_any m a.p ≡ rest m a.p = some_end ∙ pick_true _ _ _ (ap not c.if-late.false) in
     let m = view c.args.s.now in
-    let len = c.count-len.ensures in
-    let none = ap (λ (i : ℕ). ltb i m.count) (sym c.next_reply-next.ensures) ∙ le-ltb _ m.count (omega (arith, len, c.if-len-next.true)) in
-    (refused c.coded-then-len-next.ensures (none-late ∙ pick_false _ _ _ none), c.requires.1)
+    let none = le-ltb _ m.count (found_none _ _ c.next_reply.ensures c.in_default-next_reply.is) in
+    (refused c.coded-in_default-next_reply.ensures (none-late ∙ pick_false _ _ _ none), c.requires.1)
 
 pub link_at-l-requires : goal.link_at-l-requires
 link_at-l-requires c =
-    omega (arith, sound_room _ c.requires.0, c.count-len.ensures, c.if-len-next.false)
+    omega (arith, sound_room _ c.requires.0, (found_some _ _ c.next_reply.ensures c.in-Some-next_reply.is).1)
 
 pub fetch-requires : goal.fetch-requires
 fetch-requires c =
-    let next-in : let a = c.args in c.next_reply-next.result < (view a.s.now).count = omega (arith, c.count-len.ensures, c.if-len-next.false) in
+    let next = found_some _ _ c.next_reply.ensures c.in-Some-next_reply.is in
     let xs = c.args.s.now in
-    let h = next-in in
+    let h = next.1 in
     let l = c.link_at-l.ensures in
     let room = sound_room _ c.requires.0 in
-    let returned = found-returned xs c.args.p room c.next_reply-next.ensures h l in
+    let returned = found-returned xs c.args.p room next.0 h l in
     (room, c.requires.1, read_first xs c.requires.0 _ h l, read_ended xs c.requires.0 _ h l returned)
 
 pub returns : goal.returns
 unfolding fetch_any
 returns c =
     let some_end : let a = c.args in let m = view a.s.now in fetch_any m a.p ≡ ask m (not c.has_expired_end-late.result) timed_out (rest m a.p) = let m = view c.args.s.now in
-    let first = c.first_request_end-from.ensures in
-    let one = one_passes c.args.s.now (request_end c.args.p) first (sound_room _ c.requires.0) c.count-len.ensures (omega (arith, c.if-len-from.false)) in
+    let one = one_passes c.args.s.now (request_end c.args.p) (sound_room _ c.requires.0) c.first_request_end.ensures c.in-Some.is in
     pick_true _ _ _ one ∙ ap (λ (late : Bool). ask m (not late) timed_out (rest m c.args.p)) (sym c.has_expired_end-late.ensures) in
     let none-late : let a = c.args in let m = view a.s.now in fetch_any m a.p ≡ rest m a.p = some_end ∙ pick_true _ _ _ (ap not c.if-late.false) in
-    let next-in : let a = c.args in c.next_reply-next.result < (view a.s.now).count = omega (arith, c.count-len.ensures, c.if-len-next.false) in
+    let next = found_some _ _ c.next_reply.ensures c.in-Some-next_reply.is in
     let m = view c.args.s.now in
-    let next = c.next_reply-next in
-    let h = next-in in
-    let one = ap (λ (i : ℕ). ltb i m.count) (sym next.ensures) ∙ lt-ltb _ _ h in
-    let l = read_live c.args.s.now _ (sound_room _ c.requires.0) h c.link_at-l.ensures ∙ ap (live_at m) next.ensures in
+    let h = next.1 in
+    let one = ap (λ (i : ℕ). ltb i m.count) (sym next.0) ∙ lt-ltb _ _ h in
+    let l = read_live c.args.s.now _ (sound_room _ c.requires.0) h c.link_at-l.ensures ∙ ap (live_at m) next.0 in
     (c.fetch.ensures.0 ∙ ap (fetched_any m) l ∙ sym (none-late ∙ pick_true _ _ _ one), c.fetch.ensures.1)

@@ -1,6 +1,6 @@
 -- `replies::fetch_one` meets its contract.
 use Rattle.monitor.proofs.Usual.{ℕ, ◌<◌, ◌≡◌, ap, sym, ◌∙◌, Bool, not, arith, rules, eq-eqb, ne_eqb, Monitor, Link, Ruled, is_returned, ask, no_such_end, timed_out, no_reply_yet}
-use Rattle.monitor.proofs.Usual.{expired, fetched, fetch_one, view, pick_true, pick_false, sound_room, read_ended}
+use Rattle.monitor.proofs.Usual.{expired, fetched, fetch_one, view, pick_true, pick_false, sound_room, read_ended, found_some}
 use Rattle.monitor.proofs.Talking.{refused, no_request_end, on_request_end}
 use Rattle.monitor.proofs.replies.fetch_one.Goals as goal
 
@@ -11,36 +11,31 @@ timely m a l late = ask m (not late) timed_out (ask m (is_returned l) no_reply_y
 abbrev rest : Monitor → ℕ → Link → Ruled
 rest m a l = timely m a l (expired m l.tx)
 
-pub place_of-i-requires : goal.place_of-i-requires
-place_of-i-requires c = search (rules, sound_room)
+pub find_link-requires : goal.find_link-requires
+find_link-requires c = search (rules, sound_room)
 
-pub returns-then-len-i : goal.returns-then-len-i
+pub returns-in_default : goal.returns-in_default
 unfolding fetch_one
-returns-then-len-i c =
-    let place = c.place_of-i.ensures in
-    let none = no_request_end c.args.s.now c.args.a place (sound_room _ c.requires.0) c.count-len.ensures c.if-len-i.true c.args.p in
+returns-in_default c =
+    let none = no_request_end c.args.s.now c.args.a (sound_room _ c.requires.0) c.find_link.ensures c.in_default.is c.args.p in
     (refused c.coded.ensures (pick_false _ _ _ none), c.requires.1)
 
 pub link_at-l-requires : goal.link_at-l-requires
 link_at-l-requires c =
-    omega (arith, sound_room _ c.requires.0, c.count-len.ensures, c.if-len-i.false)
+    omega (arith, sound_room _ c.requires.0, (found_some _ _ c.find_link.ensures c.in-Some.is).1)
 
 pub returns-then-not-own : goal.returns-then-not-own
 unfolding fetch_one
 returns-then-not-own c =
     let found : let a = c.args in let m = view a.s.now in fetch_one m a.p a.a ≡ ask m c.is_request_end-own.result no_such_end (rest m a.a c.link_at-l.result) = let a = c.args in
-    let place = c.place_of-i.ensures in
-    let len = c.count-len.ensures in
-    on_request_end a.s.now a.a place (sound_room _ c.requires.0) len a.p (rest (view a.s.now) a.a) c.if-len-i.false c.link_at-l.ensures c.is_request_end-own.ensures in
+    on_request_end a.s.now a.a (sound_room _ c.requires.0) c.find_link.ensures a.p (rest (view a.s.now) a.a) c.in-Some.is c.link_at-l.ensures c.is_request_end-own.ensures in
     (refused c.coded-then-not-own.ensures (found ∙ pick_false _ _ _ (c.if-not-own.true)), c.requires.1)
 
 pub returns-then-late : goal.returns-then-late
 unfolding fetch_one
 returns-then-late c =
     let found : let a = c.args in let m = view a.s.now in fetch_one m a.p a.a ≡ ask m c.is_request_end-own.result no_such_end (rest m a.a c.link_at-l.result) = let a = c.args in
-    let place = c.place_of-i.ensures in
-    let len = c.count-len.ensures in
-    on_request_end a.s.now a.a place (sound_room _ c.requires.0) len a.p (rest (view a.s.now) a.a) c.if-len-i.false c.link_at-l.ensures c.is_request_end-own.ensures in
+    on_request_end a.s.now a.a (sound_room _ c.requires.0) c.find_link.ensures a.p (rest (view a.s.now) a.a) c.in-Some.is c.link_at-l.ensures c.is_request_end-own.ensures in
     let own : let a = c.args in let m = view a.s.now in fetch_one m a.p a.a ≡ timely m a.a c.link_at-l.result c.is_expired-late.result = let a = c.args in
     found
     ∙ pick_true _ _ _ (c.if-not-own.false)
@@ -51,9 +46,7 @@ pub returns-then-l-ne2 : goal.returns-then-l-ne2
 unfolding fetch_one
 returns-then-l-ne2 c =
     let found : let a = c.args in let m = view a.s.now in fetch_one m a.p a.a ≡ ask m c.is_request_end-own.result no_such_end (rest m a.a c.link_at-l.result) = let a = c.args in
-    let place = c.place_of-i.ensures in
-    let len = c.count-len.ensures in
-    on_request_end a.s.now a.a place (sound_room _ c.requires.0) len a.p (rest (view a.s.now) a.a) c.if-len-i.false c.link_at-l.ensures c.is_request_end-own.ensures in
+    on_request_end a.s.now a.a (sound_room _ c.requires.0) c.find_link.ensures a.p (rest (view a.s.now) a.a) c.in-Some.is c.link_at-l.ensures c.is_request_end-own.ensures in
     let own : let a = c.args in let m = view a.s.now in fetch_one m a.p a.a ≡ timely m a.a c.link_at-l.result c.is_expired-late.result = let a = c.args in
     found
     ∙ pick_true _ _ _ (c.if-not-own.false)
@@ -63,18 +56,15 @@ returns-then-l-ne2 c =
 
 pub fetch-requires : goal.fetch-requires
 fetch-requires c =
-    let len = c.count-len.ensures in
-    let h : c.place_of-i.result < (view c.args.s.now).count = omega (arith, len, c.if-len-i.false) in
-    let ends = read_ended c.args.s.now c.requires.0 _ h c.link_at-l.ensures (eq-eqb _ _ c.if-l-ne2.false) in
-    (sound_room _ c.requires.0, c.requires.1, c.place_of-i.ensures, ends)
+    let found = found_some _ _ c.find_link.ensures c.in-Some.is in
+    let ends = read_ended c.args.s.now c.requires.0 _ found.1 c.link_at-l.ensures (eq-eqb _ _ c.if-l-ne2.false) in
+    (sound_room _ c.requires.0, c.requires.1, found.0, ends)
 
 pub returns : goal.returns
 unfolding fetch_one
 returns c =
     let found : let a = c.args in let m = view a.s.now in fetch_one m a.p a.a ≡ ask m c.is_request_end-own.result no_such_end (rest m a.a c.link_at-l.result) = let a = c.args in
-    let place = c.place_of-i.ensures in
-    let len = c.count-len.ensures in
-    on_request_end a.s.now a.a place (sound_room _ c.requires.0) len a.p (rest (view a.s.now) a.a) c.if-len-i.false c.link_at-l.ensures c.is_request_end-own.ensures in
+    on_request_end a.s.now a.a (sound_room _ c.requires.0) c.find_link.ensures a.p (rest (view a.s.now) a.a) c.in-Some.is c.link_at-l.ensures c.is_request_end-own.ensures in
     let own : let a = c.args in let m = view a.s.now in fetch_one m a.p a.a ≡ timely m a.a c.link_at-l.result c.is_expired-late.result = let a = c.args in
     found
     ∙ pick_true _ _ _ (c.if-not-own.false)

@@ -1,5 +1,5 @@
 -- `replies::next_reply` meets its contract: a search over the links there are.
-use Rattle.monitor.proofs.Usual.{◌∙◌, arith, rules, ℕ, ◌≡◌, ap, Bool, false, ◌&&◌, Link, live, is_returned, request_end, replied_end, view, link_or_past}
+use Rattle.monitor.proofs.Usual.{arith, rules, ℕ, ◌≡◌, ap, Bool, false, ◌&&◌, Link, live, is_returned, request_end, replied_end, view}
 use Rattle.monitor.proofs.Lists.{first_past}
 use Rattle.monitor.proofs.replies.next_reply.Goals as goal
 
@@ -12,4 +12,4 @@ pub returns : goal.returns
 returns c =
     let a = c.args in
     let found = c.first_link.ensures (replied_end a.p) (let low = first_past _ (request_end a.p) (no_end a.p) (live (view a.s.now)) c.requires.1 in omega arith) (λ i b h t. search rules) in
-    c.unwrap_or.ensures ∙ link_or_past a.s.now _ c.requires.0 found c.count.ensures
+    found

@@ -1,5 +1,5 @@
 -- `requests::dispatch` meets its contract.
-use Rattle.monitor.proofs.Usual.{ℕ, ◌<◌, ap, sym, ◌∙◌, arith, ltb, lt-ltb, le-ltb, dispatched, dispatch_of, view, live_at, pick_true, pick_false, live_in}
+use Rattle.monitor.proofs.Usual.{ℕ, ◌<◌, ap, sym, ◌∙◌, arith, ltb, lt-ltb, le-ltb, dispatched, dispatch_of, view, live_at, pick_true, pick_false, live_in, found_some, found_none}
 use Rattle.monitor.proofs.Talking.{refused}
 use Rattle.monitor.proofs.requests.dispatch.Goals as goal
 
@@ -9,24 +9,27 @@ returns-then-not-idle c =
     let busy = sym c.is_idle-idle.ensures ∙ c.if-not-idle.true in
     (refused c.coded.ensures (pick_false _ _ _ busy), c.requires.2)
 
-pub returns-then-i-len : goal.returns-then-i-len
+pub returns-in_default : goal.returns-in_default
 unfolding dispatch_of
-returns-then-i-len c =
-    let m = view c.args.s.now in
-    let p = c.args.p in
-    let k = c.next_waiting-i in
-    let h : k.result < m.count = omega (arith, c.count-len.ensures, c.if-i-len.true) in
-    let l = c.link_at-l.ensures ∙ sym (live_in c.args.s.now k.result c.requires.1 h) in
+returns-in_default c =
     let idle = sym c.is_idle-idle.ensures ∙ c.if-not-idle.false in
-    let some = ap (λ (i : ℕ). ltb i m.count) (sym k.ensures) ∙ lt-ltb _ _ h in
-    let r = ap (dispatched m p k.result) l ∙ ap (λ (i : ℕ). dispatched m p i (live_at m i)) k.ensures in
-    (c.dispatch_at.ensures.0 ∙ r ∙ sym (pick_true _ _ _ idle ∙ pick_true _ _ _ some), c.dispatch_at.ensures.1)
+    let none = le-ltb _ _ (found_none _ _ c.next_waiting.ensures c.in_default.is) in
+    (refused c.coded-in_default.ensures (pick_true _ _ _ idle ∙ pick_false _ _ _ none), c.requires.2)
+
+pub link_at-l-requires : goal.link_at-l-requires
+link_at-l-requires c = omega (arith, c.requires.1, (found_some _ _ c.next_waiting.ensures c.in-Some.is).1)
+
+pub dispatch_at-requires : goal.dispatch_at-requires
+dispatch_at-requires c = (c.requires.0, omega (arith, c.requires.1, (found_some _ _ c.next_waiting.ensures c.in-Some.is).1), c.requires.2)
 
 pub returns : goal.returns
 unfolding dispatch_of
 returns c =
     let m = view c.args.s.now in
-    let k = c.next_waiting-i in
+    let p = c.args.p in
+    let k = found_some _ _ c.next_waiting.ensures c.in-Some.is in
+    let l = c.link_at-l.ensures ∙ sym (live_in c.args.s.now _ c.requires.1 k.1) in
     let idle = sym c.is_idle-idle.ensures ∙ c.if-not-idle.false in
-    let none = ap (λ (i : ℕ). ltb i m.count) (sym k.ensures) ∙ le-ltb k.result m.count (omega (arith, c.count-len.ensures, c.if-i-len.false)) in
-    (refused c.coded-2.ensures (pick_true _ _ _ idle ∙ pick_false _ _ _ none), c.requires.2)
+    let some = ap (λ (i : ℕ). ltb i m.count) (sym k.0) ∙ lt-ltb _ _ k.1 in
+    let r = ap (dispatched m p _) l ∙ ap (λ (i : ℕ). dispatched m p i (live_at m i)) k.0 in
+    (c.dispatch_at.ensures.0 ∙ r ∙ sym (pick_true _ _ _ idle ∙ pick_true _ _ _ some), c.dispatch_at.ensures.1)

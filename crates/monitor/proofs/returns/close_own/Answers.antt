@@ -1,6 +1,6 @@
 -- `returns::close_own` meets its contract: transactions are marked, and then the links are swept.
 use mathlib.Core.Path.{subst}
-use Rattle.monitor.proofs.Usual.{ap, sym, ◌∙◌, rules, Monitor, first_of, collect, own_end, live, close_own, view, count_kept}
+use Rattle.monitor.proofs.Usual.{ap, sym, ◌∙◌, rules, Monitor, first_of, collect, own_end, live, close_own, view, count_kept, link_or_past}
 use Rattle.rules.specs.Record.{rebuilt}
 use Rattle.rules.specs.Return.{close_end}
 use Rattle.monitor.specs.View.{keeps_before}
@@ -9,23 +9,26 @@ use Rattle.monitor.proofs.Closing.{stays}
 use Rattle.monitor.proofs.returns.close_own.Goals as goal
 
 pub mark_own-requires : goal.mark_own-requires
-mark_own-requires c = (c.requires.0, c.requires.1, c.first_own-from.ensures)
+mark_own-requires c =
+    (c.requires.0, c.requires.1, c.unwrap_or-from.ensures ∙ link_or_past c.args.s.now (own_end c.args.p) c.requires.0 c.first_own.ensures c.count.ensures)
 
 pub sweep-requires-clause-room : goal.sweep-requires-clause-room
 sweep-requires-clause-room c = count_kept c.mark_own.ensures.0 c.requires.0
 
 pub sweep-requires-clause-inside : goal.sweep-requires-clause-inside
 sweep-requires-clause-inside c =
+    let first = c.unwrap_or-from.ensures ∙ link_or_past c.args.s.now (own_end c.args.p) c.requires.0 c.first_own.ensures c.count.ensures in
     let e = c.mark_own.ensures.0 in
-    first_inside c.mark_own.new.s (own_end c.args.p) (count_kept e c.requires.0) (c.first_own-from.ensures ∙ ap (λ (m : Monitor). first_of (own_end c.args.p) (live m)) (sym e))
+    first_inside c.mark_own.new.s (own_end c.args.p) (count_kept e c.requires.0) (first ∙ ap (λ (m : Monitor). first_of (own_end c.args.p) (live m)) (sym e))
 
 pub returns : goal.returns
 unfolding close_own
 returns c =
     let a = c.args in
+    let first = c.unwrap_or-from.ensures ∙ link_or_past c.args.s.now (own_end c.args.p) c.requires.0 c.first_own.ensures c.count.ensures in
     let e = c.mark_own.ensures.0 in
     let k = c.sweep.ensures.whole in
-    let kept = kept_before (close_end a.p) (own_end a.p) (stays a.p) (live (view a.s.now)) c.first_own-from.ensures in
-    let kept_now = subst (λ (m : Monitor). keeps_before (close_end a.p) m c.first_own-from.result) (sym e) kept in
+    let kept = kept_before (close_end a.p) (own_end a.p) (stays a.p) (live (view a.s.now)) first in
+    let kept_now = subst (λ (m : Monitor). keeps_before (close_end a.p) m c.unwrap_or-from.result) (sym e) kept in
     let swept = c.sweep.ensures.swept (close_end a.p) kept_now (λ l r t. search rules) in
     (swept ∙ ap (λ (m : Monitor). rebuilt m (collect (close_end a.p) (live m))) e, k.0, k.1)

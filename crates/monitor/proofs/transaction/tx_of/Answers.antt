@@ -1,5 +1,6 @@
 -- `transaction::tx_of` meets its contract.
-use Rattle.monitor.proofs.Usual.{ℕ, ◌≡◌, ap, ap₂, sym, ◌∙◌, arith, eq-eqb, ne_eqb, eqb, Link, Monitor, pick, party, link_of, served_tx, tx_of, view, pick_true, pick_false, there, nowhere}
+use Rattle.monitor.proofs.Usual.{ℕ, ◌≡◌, ap, ap₂, sym, ◌∙◌, arith, eq-eqb, ne_eqb, eqb, Link, Monitor, pick, party, link_of, served_tx, tx_of, view, pick_true, pick_false, found_some}
+use Rattle.monitor.proofs.Talking.{no_link, stands}
 use Rattle.monitor.proofs.transaction.tx_of.Goals as goal
 
 -- a party's transaction by its two numbers
@@ -24,17 +25,18 @@ returns-then-served-eq0 c =
     sym (pick_true _ _ _ (eq-eqb _ _ c.if-owned-ne0.false) ∙ pick_true _ _ _ (eq-eqb _ _ c.if-served-eq0.true))
     ∙ ap₂ (txBy m) c.owned_at-owned.ensures c.served_at-served.ensures
 
-pub returns-then-i-len : goal.returns-then-i-len
+pub returns-in_default : goal.returns-in_default
 unfolding tx_of
-returns-then-i-len c =
+returns-in_default c =
     let m = view c.args.s.now in
     let owned = c.owned_at-owned in
     let served = c.served_at-served in
-    let i = c.place_of-i in
-    c.tx_at.ensures
-    ∙ ap (λ (l : Link). l.tx) (there c.args.s.now served.result i.result i.ensures c.requires.1 (omega arith))
+    ap (λ (l : Link). l.tx) (sym (no_link c.args.s.now served.result c.requires.1 c.find_link.ensures c.in_default.is))
     ∙ by-served m owned.result served.result c.if-owned-ne0.false c.if-served-eq0.false
     ∙ ap₂ (txBy m) owned.ensures served.ensures
+
+pub tx_at-requires : goal.tx_at-requires
+tx_at-requires c = omega (arith, c.requires.1, (found_some _ _ c.find_link.ensures c.in-Some.is).1)
 
 pub returns : goal.returns
 unfolding tx_of
@@ -42,7 +44,7 @@ returns c =
     let m = view c.args.s.now in
     let owned = c.owned_at-owned in
     let served = c.served_at-served in
-    let i = c.place_of-i in
-    ap (λ (l : Link). l.tx) (sym (nowhere c.args.s.now served.result i.result i.ensures c.requires.1 (omega arith)))
+    c.tx_at.ensures
+    ∙ ap (λ (l : Link). l.tx) (stands c.args.s.now served.result c.requires.1 c.find_link.ensures c.in-Some.is)
     ∙ by-served m owned.result served.result c.if-owned-ne0.false c.if-served-eq0.false
     ∙ ap₂ (txBy m) owned.ensures served.ensures
