@@ -1,6 +1,9 @@
 -- The numbers of calls and answers, by meaning.
 -- Assumes nothing.
 use Rattle.std.specs.Prelude.{ℕ, ℤ, pos, negsuc, ◌+ℤ◌}
+use Rattle.rules.specs.declared.refusal.Refusal.{Refusal}
+use Rattle.rules.specs.declared.refusal.Refusal.TheVariants.{TxProtocolError, TxError, TxEinval, UnknownKind, BadArgument, NotAllowedNow, NoSuchEnd, NotOffered}
+use Rattle.rules.specs.declared.refusal.Refusal.TheVariants.{NoRoomLeft, InTransaction, TimedOut, NothingWaiting, BadReport, NotPermitted, NoReplyYet, NothingUnread, UnreadFull}
 
 -- ---- TX (document 002)
 abbrev pub tx_ok : ℤ
@@ -189,3 +192,23 @@ tp_success = 1
 
 abbrev pub tp_fail : ℕ
 tp_fail = 2
+
+-- ---- the number of each reason for a refusal
+abbrev pub code_of : Refusal → ℤ
+code_of TxProtocolError = tx_protocol_error
+code_of TxError = tx_error
+code_of TxEinval = tx_einval
+code_of UnknownKind = unknown_kind
+code_of BadArgument = bad_argument
+code_of NotAllowedNow = not_allowed_now
+code_of NoSuchEnd = no_such_end
+code_of NotOffered = not_offered
+code_of NoRoomLeft = no_room_left
+code_of InTransaction = in_transaction
+code_of TimedOut = timed_out
+code_of NothingWaiting = nothing_waiting
+code_of BadReport = bad_report
+code_of NotPermitted = not_permitted
+code_of NoReplyYet = no_reply_yet
+code_of NothingUnread = nothing_unread
+code_of UnreadFull = unread_full

@@ -2,12 +2,15 @@
 #![tactic(auto)]
 
 pub mod codes;
+mod refusal;
 
 ghost use Rattle.std.specs.Prelude.{◌≡◌};
 ghost use Rattle.rules.specs.Record.{fresh_party, fresh_link};
 
+pub use refusal::Refusal;
+
 // A party. Yes/no fields and other choices are numbers, so that whatever a host lends is a value that can be refused.
-#[derive(Clone, Copy, PartialEq, Eq)]
+#[derive(Clone, Copy, PartialEq, Eq, Default)]
 pub struct Party {
     // 0 not opened, 1 opened
     pub opened: u32,
@@ -34,7 +37,7 @@ pub struct Party {
 }
 
 // A request or a conversation between its originator and the party that serves it.
-#[derive(Clone, Copy, PartialEq, Eq)]
+#[derive(Clone, Copy, PartialEq, Eq, Default)]
 pub struct Link {
     pub number: u32,
     // 0 request, 1 conversation
@@ -124,7 +127,7 @@ impl Party {
     // how many services it can offer
     pub const SERVICES: u32 = 8;
     // all services that there are, as a set
-    pub const ALL_SERVICES: u64 = 18446744073709551615;
+    pub const ALL_SERVICES: u64 = u64::MAX;
     // the longest timeout, in seconds
     pub const TIMEOUT: u32 = 2147483647;
 
@@ -132,17 +135,9 @@ impl Party {
         ensures { result ≡ fresh_party }
     {
         Party {
-            opened: 0,
-            control: 0,
-            timeout: 0,
-            services: 0,
-            owned: 0,
-            deadline: 0,
-            rollbackonly: 0,
-            served: 0,
-            reports: [0; 4],
             mayrequest: Party::ALL_SERVICES,
             mayadvertise: Party::ALL_SERVICES,
+            ..Party::default()
         }
     }
 }
@@ -154,24 +149,7 @@ impl Link {
     pub fn fresh() -> Link
         ensures { result ≡ fresh_link }
     {
-        Link {
-            number: 0,
-            kind: 0,
-            originator: 0,
-            attached: 0,
-            service: 0,
-            tx: 0,
-            state: 0,
-            server: 0,
-            first: 0,
-            outcome: 0,
-            ending: 0,
-            sender: 0,
-            granting: 0,
-            disconnected: 0,
-            unread: [0; 4],
-            filled: 0,
-        }
+        Link::default()
     }
 }
 
