@@ -1,32 +1,28 @@
 -- Laws of a piece that is run and listed.
 -- Assumes nothing.
-use Prim.Native.Nat.{ℕ, zero, suc, ◌+◌, ◌*◌, ◌/◌, ◌≤◌, ◌<◌}
+use Prim.Native.Nat.{ℕ, ◌+◌, ◌*◌, ◌/◌, ◌≤◌, ◌<◌}
 use mathlib.Core.Path.{◌≡◌, ap, sym, ◌∙◌, subst}
 use mathlib.Core.Bool.{Bool}
-use mathlib.Core.List.{List, ◌++◌}
+use mathlib.Core.List.{List}
 use native.Mathlib.Omega.{arith}
 use borrow.Author.Tests.{le-leb, lt-leb, leb-true}
 use lib.IntN.{ℤ}
-use lib.ListN.{length, drop, length-append}
-use lib.Seq.{sets-eq}
+use lib.ListN.{length, length-append}
 use Rattle.rules.specs.Codes.{too_little_room}
 use Rattle.rules.specs.declared.Monitor.{Monitor}
 use Rattle.monitor.specs.File.{Passed, piece_of}
 use Rattle.rules.proofs.Logic.{pick_true, pick_false, by_test}
 use Rattle.monitor.proofs.Calls.{piece_few}
-use Rattle.listing.specs.Text.{lines_of, refusal_line, line_of}
+use Rattle.listing.specs.Text.{Puts, lines_of, refusal_line}
 use Rattle.listing.specs.Piece.{text_of, Shown, shown, listing, text_room, listed_of}
-use Rattle.listing.proofs.Digits.{Puts, line_short, refusal_short}
-
-pub lines_short : (n : ℕ) (answers : List ℤ) → length (lines_of n answers) ≤ n * 132
-unfolding lines_of
-lines_short zero answers = omega arith
-lines_short (suc n) answers =
-    omega (arith, length-append (line_of answers) (lines_of n (drop 6 answers)), line_short answers, lines_short n (drop 6 answers))
+use Rattle.listing.proofs.Digits.{lines_short, refusal_short}
 
 pub text_short : (p : Passed) → length (text_of p) ≤ p.calls * 132 + 22
 text_short p =
     omega (arith, length-append (lines_of p.calls p.places) (refusal_line p.code), lines_short p.calls p.places, refusal_short p.code)
+
+pub few_calls : (m : Monitor) (input : List ℕ) (last : Bool) (answers : List ℤ) {p : Passed} → p ≡ piece_of m input last answers → p.calls ≤ length answers / 6
+few_calls m input last answers e = subst (λ (p : Passed). p.calls ≤ length answers / 6) (sym e) (piece_few m input last answers)
 
 module _ (m : Monitor) (input : List ℕ) (last : Bool) (answers : List ℤ) (out : List ℕ) where
   pub listed_little : length out < text_room answers → shown m 0 0 too_little_room answers out ≡ listed_of m input last answers out
@@ -34,16 +30,12 @@ module _ (m : Monitor) (input : List ℕ) (last : Bool) (answers : List ℤ) (ou
   listed_little h = sym (pick_false _ _ _ (lt-leb (text_room answers) (length out) h))
 
   pub listed_enough : text_room answers ≤ length out → (p : Passed) → p ≡ piece_of m input last answers
-      → (after : List ℕ) (written : ℕ) → Puts out 0 (text_of p) after written
+      → (after : List ℕ) (written : ℕ) → Puts out (text_of p) after written
       → shown p.monitor p.used written p.code p.places after ≡ listed_of m input last answers out
   unfolding listed_of
   listed_enough h p same after written puts =
-      let few : p.calls ≤ length answers / 6 = subst (λ (q : Passed). q.calls ≤ length answers / 6) (sym same) (piece_few m input last answers) in
-      let fits : 0 + length (text_of p) ≤ length out = omega (arith, text_short p) in
-      let none : 0 + length (text_of p) ≡ length (text_of p) = omega arith in
-      ap (λ (w : ℕ). shown p.monitor p.used w p.code p.places after) (puts.ends ∙ none)
-      ∙ ap (shown p.monitor p.used (length (text_of p)) p.code p.places)
-      (puts.makes ∙ sets-eq (text_of p) out 0 fits ∙ ap (λ (n : ℕ). text_of p ++ drop n out) none)
+      ap (λ (w : ℕ). shown p.monitor p.used w p.code p.places after) puts.ends
+      ∙ ap (shown p.monitor p.used (length (text_of p)) p.code p.places) puts.makes
       ∙ ap (λ (q : Passed). listing q out) same
       ∙ sym (pick_true _ _ _ (le-leb (text_room answers) (length out) h))
 

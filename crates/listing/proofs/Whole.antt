@@ -1,14 +1,11 @@
 -- The lines of a drill file that is run and listed in pieces are those of the whole file, and its refusal's.
 -- Assumes nothing.
-use Prim.Native.Nat.{ℕ, zero, suc, ◌+◌, ◌*◌, ◌/◌, ◌≤◌, ◌<◌}
+use Prim.Native.Nat.{ℕ, zero, suc, ◌*◌, ◌/◌, ◌≤◌}
 use mathlib.Core.Path.{◌≡◌, refl, ap, sym, ◌∙◌}
 use mathlib.Core.Bool.{Bool, true, false}
 use mathlib.Core.List.{List, [], ◌∷◌, ◌++◌, append_assoc, append-nil}
-use native.Mathlib.Nat.{zero-add, add-zero, suc-add}
-use native.Mathlib.Omega.{arith}
 use lib.IntN.{ℤ, pos, negsuc}
-use lib.ListN.{length, drop, get_or, length-drop, take-append-drop, get_or-append}
-use lib.Seq.{drop-append-le}
+use lib.ListN.{length, drop, take-append-drop}
 use Rattle.rules.specs.Choice.{pick}
 use Rattle.rules.specs.declared.Monitor.{Monitor}
 use Rattle.rules.proofs.Fine.{Shape}
@@ -16,33 +13,9 @@ use Rattle.rules.proofs.Logic.{pick_true, by_test, test, not_both}
 use Rattle.monitor.specs.File.{file_calls, Passed, piece_of, file_of}
 use Rattle.monitor.specs.Pieces.{said_by, left_by, is_refused, is_over, then_turns, last_turns, turns_of, joined, in_front, together}
 use Rattle.monitor.proofs.Pieces.{Roomy, whole_of, pieces_whole, whole_long, whole_file, said_long}
-use Rattle.listing.specs.Text.{line_of, lines_of, refusal_line}
+use Rattle.listing.specs.Text.{lines_of, refusal_line}
 use Rattle.listing.specs.Piece.{text_of, texts_of}
-
--- ---- lines
-
-line_front : (xs ys : List ℤ) → 6 ≤ length xs → line_of (xs ++ ys) ≡ line_of xs
-unfolding line_of
-line_front xs ys h =
-    let at : (k : ℕ) → k < 6 → get_or (xs ++ ys) k (pos 0) ≡ get_or xs k (pos 0) = λ k less. get_or-append xs ys (pos 0) k (omega arith) in
-    rw (at 0 (omega arith), at 1 (omega arith), at 2 (omega arith), at 3 (omega arith), at 4 (omega arith), at 5 (omega arith))
-
-lines_append : (a b : ℕ) (xs ys : List ℤ) → length xs ≡ a * 6 → lines_of (a + b) (xs ++ ys) ≡ lines_of a xs ++ lines_of b ys
-unfolding lines_of
-lines_append zero b [] ys h = ap (λ (k : ℕ). lines_of k ys) (zero-add b)
-lines_append zero b (x ∷ xs) ys h = absurd (omega arith)
-lines_append (suc a) b xs ys h =
-    ap (λ (k : ℕ). lines_of k (xs ++ ys)) (suc-add a b)
-    ∙ ap (λ (l : List ℕ). l ++ lines_of (a + b) (drop 6 (xs ++ ys))) (line_front xs ys (omega arith))
-    ∙ ap (λ (l : List ℤ). line_of xs ++ lines_of (a + b) l) (drop-append-le 6 xs ys (omega arith))
-    ∙ ap (λ (l : List ℕ). line_of xs ++ l) (lines_append a b (drop 6 xs) ys (omega (arith, length-drop 6 xs)))
-    ∙ sym (append_assoc (line_of xs) (lines_of a (drop 6 xs)) (lines_of b ys))
-
--- what stands past the answers does not matter
-lines_front : (a : ℕ) (xs ys : List ℤ) → length xs ≡ a * 6 → lines_of a (xs ++ ys) ≡ lines_of a xs
-unfolding lines_of
-lines_front a xs ys h =
-    ap (λ (k : ℕ). lines_of k (xs ++ ys)) (sym (add-zero a)) ∙ lines_append a 0 xs ys h ∙ append-nil (lines_of a xs)
+use Rattle.listing.proofs.Digits.{lines_append, lines_front}
 
 -- ---- turns
 

@@ -1,8 +1,17 @@
 -- Numbers and answers as text, in ASCII.
 -- Assumes nothing.
-use Rattle.std.specs.Prelude.{ℕ, zero, suc, ◌+◌, ◌/◌, ◌%◌, List, [], ◌∷◌, ◌++◌, ltb, ℤ, pos, negsuc, nat_abs, get_or, drop}
+use Rattle.std.specs.Prelude.{◌≡◌, ℕ, zero, suc, ◌+◌, ◌/◌, ◌%◌, List, [], ◌∷◌, ◌++◌, ltb, ℤ, pos, negsuc, nat_abs, length, get_or, drop}
 use Rattle.std.specs.Int.Signed.{lt_z}
 use Rattle.rules.specs.Choice.{pick}
+
+-- these bytes at the front of a buffer, and the rest of it as it was
+abbrev pub at_front : List ℕ → List ℕ → List ℕ
+at_front bytes buffer = bytes ++ drop (length bytes) buffer
+
+-- A text has been put at the front of a buffer, which makes another, and ends at a place.
+pub record Puts (before text after : List ℕ) (end : ℕ) : Type 0 where
+  pub ends : end ≡ length text
+  pub makes : after ≡ at_front text before
 
 -- the decimal digits of a number that `most` digits can hold, the most significant first
 unfoldable pub digits_of : ℕ → ℕ → List ℕ
@@ -16,6 +25,11 @@ decimal n = digits_of 20 n
 -- a signed number: a minus in front of a negative one
 unfoldable pub signed : ℤ → List ℕ
 signed z = pick (lt_z z (pos 0)) (45 ∷ decimal (nat_abs z)) (decimal (nat_abs z))
+
+-- the minus alone
+unfoldable pub sign : ℤ → List ℕ
+sign (pos n) = []
+sign (negsuc n) = 45 ∷ []
 
 -- a number and the byte after it: a space, or a line feed at the end of a line
 unfoldable pub field : ℤ → ℕ → List ℕ

@@ -23,16 +23,7 @@ pub fn list_piece(m: Store, input: &[u8], last: bool, answers: &mut [i64], out: 
         ≡ listed_of (view m.words) input.now last answers.old out.old }
 {
     let room = out.len();
-    let most = answers.len() / 6;
-    if room < 22 {
-        return Listed {
-            store: m,
-            used: 0,
-            written: 0,
-            code: codes::TOO_LITTLE_ROOM,
-        };
-    }
-    if (room - 22) / 132 < most {
+    if room < 22 || (room - 22) / 132 < answers.len() / 6 {
         return Listed {
             store: m,
             used: 0,
@@ -41,15 +32,12 @@ pub fn list_piece(m: Store, input: &[u8], last: bool, answers: &mut [i64], out: 
         };
     }
     let ran = run_piece(m, input, last, &mut *answers);
-    let calls = ran.calls;
-    let code = ran.code;
-    let at = put_lines(&mut *out, answers, calls);
-    let written = put_refusal(&mut *out, at, code);
-    let after = ran.store;
+    let lines = put_lines(&mut *out, &answers[..ran.calls * 6]);
+    let refusal = put_refusal(&mut out[lines..], ran.code);
     Listed {
-        store: after,
+        store: ran.store,
         used: ran.used,
-        written,
-        code,
+        written: lines + refusal,
+        code: ran.code,
     }
 }

@@ -1,102 +1,78 @@
-// Numbers and lines, put into a lent buffer.
-ghost use Rattle.std.specs.Prelude.{◌≡◌, ◌+◌, ◌*◌, ◌≤◌, ◌<◌, nat_abs, pos, length, drop, get_or};
-ghost use Rattle.std.proofs.lemmas.List.Edits.{sets};
-ghost use Rattle.listing.specs.Text.{decimal, field, line_of, lines_of, refusal_line};
+// Numbers and lines, put at the front of a lent buffer.
+ghost use Rattle.std.specs.Prelude.{◌*◌, ◌/◌, ◌<◌, ◌≤◌, length};
+ghost use Rattle.listing.specs.Text.{sign, decimal, field, line_of, lines_of, refusal_line, Puts};
 
 use rules::codes;
 
-// A number's decimal digits.
-fn put_digits(out: &mut [u8], at: usize, n: u64) -> usize
-    requires { at + length (decimal n) ≤ length out.old }
-    ensures next { result ≡ at + length (decimal n) }
-    ensures text { out.new ≡ sets out.old at (decimal n) }
+// A number's decimal digits. By hand: a line takes half as long again with the crate `itoa`, and more than four times as long with `write!`.
+fn put_digits(out: &mut [u8], n: u64) -> usize
+    requires { length (decimal n) ≤ length out.old }
+    ensures { Puts out.old (decimal n) out.new result }
 {
     if n < 10 {
-        out[at] = (48 + n) as u8;
-        return at + 1;
+        out[0] = b'0' + n as u8;
+        return 1;
     }
-    let last = put_digits(&mut *out, at, n / 10);
-    out[last] = (48 + n % 10) as u8;
+    let last = put_digits(&mut *out, n / 10);
+    out[last] = b'0' + (n % 10) as u8;
     last + 1
 }
 
-// A number without its sign.
-fn magnitude(n: i64) -> u64
-    ensures { result ≡ nat_abs n }
+// A minus in front of a negative number.
+fn put_sign(out: &mut [u8], n: i64) -> usize
+    requires { 0 < length out.old }
+    ensures { Puts out.old (sign n) out.new result }
 {
     if n < 0 {
-        return (-1 - n) as u64 + 1;
+        out[0] = b'-';
+        return 1;
     }
-    n as u64
+    0
 }
 
-// A number, with a minus where it is negative, and the byte after it.
-fn put_field(out: &mut [u8], at: usize, n: i64, after: u8) -> usize
-    requires { at + 22 ≤ length out.old }
-    ensures next { result ≡ at + length (field n after) }
-    ensures text { out.new ≡ sets out.old at (field n after) }
+// A number, and the byte after it.
+fn put_field(out: &mut [u8], n: i64, after: u8) -> usize
+    requires { 22 ≤ length out.old }
+    ensures { Puts out.old (field n after) out.new result }
 {
-    let size = magnitude(n);
-    if n < 0 {
-        out[at] = 45;
-        let end = put_digits(&mut *out, at + 1, size);
-        out[end] = after;
-        return end + 1;
-    }
-    let end = put_digits(&mut *out, at, size);
-    out[end] = after;
-    end + 1
+    let mut at = put_sign(&mut *out, n);
+    at += put_digits(&mut out[at..], n.unsigned_abs());
+    out[at] = after;
+    at + 1
 }
 
-// One of the answer places, as a field.
-fn put_answer(out: &mut [u8], at: usize, answers: &[i64], place: usize, after: u8) -> usize
-    requires at_in_bounds { at + 22 ≤ length out.old }
-    requires place_in_bounds { place < length answers.now }
-    ensures next { result ≡ at + length (field (get_or answers.now place (pos 0)) after) }
-    ensures text { out.new ≡ sets out.old at (field (get_or answers.now place (pos 0)) after) }
-{
-    put_field(&mut *out, at, answers[place], after)
-}
-
-// The line of the six answer places from a place on.
-fn put_line(out: &mut [u8], at: usize, answers: &[i64], from: usize) -> usize
-    requires at_in_bounds { at + 132 ≤ length out.old }
-    requires from_in_bounds { from + 6 ≤ length answers.now }
-    ensures next { result ≡ at + length (line_of (drop from answers.now)) }
-    ensures text { out.new ≡ sets out.old at (line_of (drop from answers.now)) }
-{
-    let a = put_answer(&mut *out, at, answers, from, 32);
-    let b = put_answer(&mut *out, a, answers, from + 1, 32);
-    let c = put_answer(&mut *out, b, answers, from + 2, 32);
-    let d = put_answer(&mut *out, c, answers, from + 3, 32);
-    let e = put_answer(&mut *out, d, answers, from + 4, 32);
-    put_answer(&mut *out, e, answers, from + 5, 10)
-}
-
-// The lines of the first n answers, from the front of the buffer on.
-pub(crate) fn put_lines(out: &mut [u8], answers: &[i64], n: usize) -> usize
-    requires n_in_bounds { n * 132 ≤ length out.old }
-    requires n_in_bounds_2 { n * 6 ≤ length answers.now }
-    ensures next { result ≡ length (lines_of n answers.now) }
-    ensures text { out.new ≡ sets out.old 0 (lines_of n answers.now) }
+// A line: six answers, one space between, a line feed at the end.
+fn put_line(out: &mut [u8], answers: &[i64; 6]) -> usize
+    requires { 132 ≤ length out.old }
+    ensures { Puts out.old (line_of answers.now) out.new result }
 {
     let mut at = 0;
-    let mut i = 0;
-    while i < n {
-        at = put_line(&mut *out, at, answers, i * 6);
-        i += 1;
+    for n in &answers[..5] {
+        at += put_field(&mut out[at..], *n, b' ');
+    }
+    at + put_field(&mut out[at..], answers[5], b'\n')
+}
+
+// The lines of the answers.
+pub(crate) fn put_lines(out: &mut [u8], answers: &[i64]) -> usize
+    requires { length answers.now / 6 * 132 ≤ length out.old }
+    ensures { Puts out.old (lines_of (length answers.now / 6) answers.now) out.new result }
+{
+    let (calls, _) = answers.as_chunks::<6>();
+    let mut at = 0;
+    for call in calls {
+        at += put_line(&mut out[at..], call);
     }
     at
 }
 
 // A refusal's number alone on a line, or nothing for 0.
-pub(crate) fn put_refusal(out: &mut [u8], at: usize, code: i64) -> usize
-    requires { at + 22 ≤ length out.old }
-    ensures next { result ≡ at + length (refusal_line code) }
-    ensures text { out.new ≡ sets out.old at (refusal_line code) }
+pub(crate) fn put_refusal(out: &mut [u8], code: i64) -> usize
+    requires { 22 ≤ length out.old }
+    ensures { Puts out.old (refusal_line code) out.new result }
 {
     if code == codes::FILE_RUN {
-        return at;
+        return 0;
     }
-    put_field(&mut *out, at, code, 10)
+    put_field(&mut *out, code, b'\n')
 }

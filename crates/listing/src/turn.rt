@@ -1,22 +1,13 @@
 // A turn of the drill program, on the lent buffers.
-ghost use Rattle.std.specs.Prelude.{◌≡◌, ◌-◌, ◌≤◌, min, length, take, drop};
+ghost use Rattle.std.specs.Prelude.{◌≡◌, ◌-◌, ◌≤◌, length, take, drop};
 ghost use Rattle.monitor.specs.Pieces.{is_over};
 ghost use Rattle.monitor.specs.View.{view};
-ghost use Rattle.listing.specs.Turn.{turned, at_front, turned_of};
+ghost use Rattle.listing.specs.Text.{at_front};
+ghost use Rattle.listing.specs.Turn.{turned, turned_of};
 
 use super::piece::list_piece;
 use monitor::Store;
 use rules::codes;
-
-// The lesser of two numbers.
-fn least(a: usize, b: usize) -> usize
-    ensures { result ≡ min a b }
-{
-    if a < b {
-        return a;
-    }
-    b
-}
 
 // Moves the bytes from `used` up to `count` to the front, and tells how many they are.
 fn keep_rest(buffer: &mut [u8], used: usize, count: usize) -> usize
@@ -27,26 +18,15 @@ fn keep_rest(buffer: &mut [u8], used: usize, count: usize) -> usize
     if count <= used {
         return 0;
     }
-    let rest = count - used;
-    let mut i = 0;
-    while i < rest {
-        buffer[i] = buffer[used + i];
-        i += 1;
-    }
-    rest
+    buffer.copy_within(used..count, 0);
+    count - used
 }
 
 // Is the file over? After a refusal, and where the input has ended and nothing is left.
 fn is_over(ended: bool, code: i64, left: usize) -> bool
     ensures { result ≡ is_over ended code left }
 {
-    if code == codes::FILE_RUN {
-        if ended {
-            return left == 0;
-        }
-        return false;
-    }
-    true
+    code != codes::FILE_RUN || (ended && left == 0)
 }
 
 // What a turn gives: the record after it, how many bytes are kept at the front of the input's buffer, how many bytes of text there are, and whether the
@@ -72,18 +52,13 @@ pub fn list_turn(
     ensures { turned (view result.store.words) result.kept result.written result.over input.new answers.new out.new
         ≡ turned_of (view m.words) input.old count ended answers.old out.old }
 {
-    let held = least(count, input.len());
+    let held = count.min(input.len());
     let listed = list_piece(m, &input[..held], ended, &mut *answers, &mut *out);
-    let used = listed.used;
-    let written = listed.written;
-    let code = listed.code;
-    let after = listed.store;
-    let kept = keep_rest(&mut *input, used, held);
-    let over = is_over(ended, code, kept);
+    let kept = keep_rest(&mut *input, listed.used, held);
     Turned {
-        store: after,
+        store: listed.store,
         kept,
-        written,
-        over,
+        written: listed.written,
+        over: is_over(ended, listed.code, kept),
     }
 }

@@ -1,65 +1,31 @@
--- `listing::text::put_line` meets its contract.
-use Prim.Native.Nat.{ℕ}
-use mathlib.Core.List.{List}
-use native.Mathlib.Omega.{arith}
-use Rattle.listing.proofs.Digits.{Fields, fields_first, fields_more, fields_room, fields_line}
+-- `text::put_line` meets its contract.
+use Rattle.std.proofs.Common.{◌≡◌, ◌<◌, get_or, get_or-take, length-take, take, pos, arith, rules}
+use Rattle.listing.proofs.Digits.{field_read, fields_of, fields_more, line_is, fields_short}
+use Rattle.listing.proofs.Puts.{part_long, puts_none, puts_then}
 use Rattle.listing.proofs.text.put_line.Goals as goal
 
-pub put_answer-b-requires : goal.put_answer-b-requires
-put_answer-b-requires c =
-    let Put : ℕ → List ℕ → ℕ → Type 0 = Fields c.args.out.now c.args.at c.args.answers.now c.args.from in
-    let first-put : Put 0 c.put_answer-a.new.out c.put_answer-a.result = fields_first c.requires.at_in_bounds c.requires.from_in_bounds (record { ends = c.put_answer-a.ensures.next; makes = c.put_answer-a.ensures.text }) c.put_answer-a.auto.out in
-    let r = fields_room first-put (omega arith) in
-    record { at_in_bounds = r.0; place_in_bounds = r.1 }
+pub loop-n-init : goal.loop-n-init
+unfolding fields_of
+loop-n-init c = puts_none c.args.out.now
 
-pub put_answer-c-requires : goal.put_answer-c-requires
-put_answer-c-requires c =
-    let Put : ℕ → List ℕ → ℕ → Type 0 = Fields c.args.out.now c.args.at c.args.answers.now c.args.from in
-    let first-put : Put 0 c.put_answer-a.new.out c.put_answer-a.result = fields_first c.requires.at_in_bounds c.requires.from_in_bounds (record { ends = c.put_answer-a.ensures.next; makes = c.put_answer-a.ensures.text }) c.put_answer-a.auto.out in
-    let second-put : Put 1 c.put_answer-b.new.out c.put_answer-b.result = fields_more first-put (record { ends = c.put_answer-b.ensures.next; makes = c.put_answer-b.ensures.text }) c.put_answer-b.auto.out in
-    let r = fields_room second-put (omega arith) in
-    record { at_in_bounds = r.0; place_in_bounds = r.1 }
+pub put_field-at-requires : goal.put_field-at-requires
+put_field-at-requires c = omega (arith, part_long c.loop-n.at c.loop-n.out, fields_short c.args.answers.now c.loop-n.n-index)
 
-pub put_answer-d-requires : goal.put_answer-d-requires
-put_answer-d-requires c =
-    let Put : ℕ → List ℕ → ℕ → Type 0 = Fields c.args.out.now c.args.at c.args.answers.now c.args.from in
-    let first-put : Put 0 c.put_answer-a.new.out c.put_answer-a.result = fields_first c.requires.at_in_bounds c.requires.from_in_bounds (record { ends = c.put_answer-a.ensures.next; makes = c.put_answer-a.ensures.text }) c.put_answer-a.auto.out in
-    let second-put : Put 1 c.put_answer-b.new.out c.put_answer-b.result = fields_more first-put (record { ends = c.put_answer-b.ensures.next; makes = c.put_answer-b.ensures.text }) c.put_answer-b.auto.out in
-    let third-put : Put 2 c.put_answer-c.new.out c.put_answer-c.result = fields_more second-put (record { ends = c.put_answer-c.ensures.next; makes = c.put_answer-c.ensures.text }) c.put_answer-c.auto.out in
-    let r = fields_room third-put (omega arith) in
-    record { at_in_bounds = r.0; place_in_bounds = r.1 }
+pub loop-n-preserved : goal.loop-n-preserved
+loop-n-preserved c =
+    let answers = c.args.answers.now in
+    let n = c.loop-n.n-index in
+    let field = field_read (get_or (take 5 answers) n (pos 0)) 32 c.put_field-at.ensures (search rules) in
+    let few : n < 5 = omega (arith, length-take 5 answers) in
+    rw (fields_more answers n) (puts_then c.loop-n.invariant (omega (arith, fields_short answers n)) (rw (get_or-take 5 answers n (pos 0) few) at field))
 
-pub put_answer-e-requires : goal.put_answer-e-requires
-put_answer-e-requires c =
-    let Put : ℕ → List ℕ → ℕ → Type 0 = Fields c.args.out.now c.args.at c.args.answers.now c.args.from in
-    let first-put : Put 0 c.put_answer-a.new.out c.put_answer-a.result = fields_first c.requires.at_in_bounds c.requires.from_in_bounds (record { ends = c.put_answer-a.ensures.next; makes = c.put_answer-a.ensures.text }) c.put_answer-a.auto.out in
-    let second-put : Put 1 c.put_answer-b.new.out c.put_answer-b.result = fields_more first-put (record { ends = c.put_answer-b.ensures.next; makes = c.put_answer-b.ensures.text }) c.put_answer-b.auto.out in
-    let third-put : Put 2 c.put_answer-c.new.out c.put_answer-c.result = fields_more second-put (record { ends = c.put_answer-c.ensures.next; makes = c.put_answer-c.ensures.text }) c.put_answer-c.auto.out in
-    let fourth-put : Put 3 c.put_answer-d.new.out c.put_answer-d.result = fields_more third-put (record { ends = c.put_answer-d.ensures.next; makes = c.put_answer-d.ensures.text }) c.put_answer-d.auto.out in
-    let r = fields_room fourth-put (omega arith) in
-    record { at_in_bounds = r.0; place_in_bounds = r.1 }
-
-pub put_answer-requires : goal.put_answer-requires
-put_answer-requires c =
-    let Put : ℕ → List ℕ → ℕ → Type 0 = Fields c.args.out.now c.args.at c.args.answers.now c.args.from in
-    let first-put : Put 0 c.put_answer-a.new.out c.put_answer-a.result = fields_first c.requires.at_in_bounds c.requires.from_in_bounds (record { ends = c.put_answer-a.ensures.next; makes = c.put_answer-a.ensures.text }) c.put_answer-a.auto.out in
-    let second-put : Put 1 c.put_answer-b.new.out c.put_answer-b.result = fields_more first-put (record { ends = c.put_answer-b.ensures.next; makes = c.put_answer-b.ensures.text }) c.put_answer-b.auto.out in
-    let third-put : Put 2 c.put_answer-c.new.out c.put_answer-c.result = fields_more second-put (record { ends = c.put_answer-c.ensures.next; makes = c.put_answer-c.ensures.text }) c.put_answer-c.auto.out in
-    let fourth-put : Put 3 c.put_answer-d.new.out c.put_answer-d.result = fields_more third-put (record { ends = c.put_answer-d.ensures.next; makes = c.put_answer-d.ensures.text }) c.put_answer-d.auto.out in
-    let fifth-put : Put 4 c.put_answer-e.new.out c.put_answer-e.result = fields_more fourth-put (record { ends = c.put_answer-e.ensures.next; makes = c.put_answer-e.ensures.text }) c.put_answer-e.auto.out in
-    let r = fields_room fifth-put (omega arith) in
-    record { at_in_bounds = r.0; place_in_bounds = r.1 }
+pub put_field-requires : goal.put_field-requires
+put_field-requires c =
+    omega (arith, part_long c.loop-n.at c.loop-n.out, fields_short c.args.answers.now c.loop-n.n-index, length-take 5 c.args.answers.now)
 
 pub returns : goal.returns
 returns c =
-    let Put : ℕ → List ℕ → ℕ → Type 0 = Fields c.args.out.now c.args.at c.args.answers.now c.args.from in
-    let first-put : Put 0 c.put_answer-a.new.out c.put_answer-a.result = fields_first c.requires.at_in_bounds c.requires.from_in_bounds (record { ends = c.put_answer-a.ensures.next; makes = c.put_answer-a.ensures.text }) c.put_answer-a.auto.out in
-    let second-put : Put 1 c.put_answer-b.new.out c.put_answer-b.result = fields_more first-put (record { ends = c.put_answer-b.ensures.next; makes = c.put_answer-b.ensures.text }) c.put_answer-b.auto.out in
-    let third-put : Put 2 c.put_answer-c.new.out c.put_answer-c.result = fields_more second-put (record { ends = c.put_answer-c.ensures.next; makes = c.put_answer-c.ensures.text }) c.put_answer-c.auto.out in
-    let fourth-put : Put 3 c.put_answer-d.new.out c.put_answer-d.result = fields_more third-put (record { ends = c.put_answer-d.ensures.next; makes = c.put_answer-d.ensures.text }) c.put_answer-d.auto.out in
-    let fifth-put : Put 4 c.put_answer-e.new.out c.put_answer-e.result = fields_more fourth-put (record { ends = c.put_answer-e.ensures.next; makes = c.put_answer-e.ensures.text }) c.put_answer-e.auto.out in
-    let p = fields_line fifth-put (record { ends = c.put_answer.ensures.next; makes = c.put_answer.ensures.text }) in
-    record {
-      next = p.ends;
-      text = p.makes;
-    }
+    let answers = c.args.answers.now in
+    let field = field_read (get_or answers 5 (pos 0)) 10 c.put_field.ensures (search rules) in
+    let five : c.loop-n.n-index ≡ 5 = omega (arith, length-take 5 answers) in
+    rw (← line_is answers) (puts_then (rw five at c.loop-n.invariant) (omega (arith, fields_short answers c.loop-n.n-index)) field)

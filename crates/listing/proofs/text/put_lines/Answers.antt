@@ -1,26 +1,17 @@
--- `listing::text::put_lines` meets its contract.
-use native.Mathlib.Omega.{arith}
-use Rattle.listing.proofs.Digits.{lists_none, lists_one, lists_all}
+-- `text::put_lines` meets its contract.
+use Rattle.std.proofs.Common.{arith}
+use Rattle.listing.specs.Text.{lines_of}
+use Rattle.listing.proofs.Digits.{lines_next, lines_short}
+use Rattle.listing.proofs.Puts.{part_long, puts_none}
 use Rattle.listing.proofs.text.put_lines.Goals as goal
 
-pub loop-i-init : goal.loop-i-init
-loop-i-init c = lists_none _ _ _
+pub loop-call-init : goal.loop-call-init
+unfolding lines_of
+loop-call-init c = puts_none c.args.out.now
 
 pub put_line-at-requires : goal.put_line-at-requires
-put_line-at-requires c =
-    let below = c.loop-i-test.true in
-    let k = c.loop-i.invariant in
-    record {
-      at_in_bounds = omega (arith, k.short, k.long, c.requires.n_in_bounds, below);
-      from_in_bounds = omega (arith, c.requires.n_in_bounds_2, below);
-    }
+put_line-at-requires c = omega (arith, part_long c.loop-call.at c.loop-call.out, lines_short c.loop-call.call-index c.args.answers.now)
 
-pub loop-i-preserved : goal.loop-i-preserved
-loop-i-preserved c =
-    let line = c.put_line-at in
-    lists_one c.loop-i.invariant c.loop-i-test.true _ _ line.auto.out (record { ends = line.ensures.next; makes = line.ensures.text })
-
-pub returns : goal.returns
-returns c =
-    let r = lists_all c.loop-i.invariant c.loop-i-test.false in
-    record { next = r.0; text = r.1 }
+pub loop-call-preserved : goal.loop-call-preserved
+loop-call-preserved c =
+    lines_next c.args.answers.now c.loop-call.invariant (omega (arith, lines_short c.loop-call.call-index c.args.answers.now)) (omega arith) (rw c.as_chunks.ensures.front at c.put_line-at.ensures)

@@ -1,9 +1,5 @@
-use Prim.Native.Nat.{◌-◌}
-use Rattle.listing.proofs.Digits.{Lists}
+use Rattle.listing.specs.Text.{Puts, lines_of}
 use Rattle.listing.proofs.text.put_lines.Given as goal
 
-abbrev pub invariant-loop-i : goal.invariant-loop-i
-invariant-loop-i l = Lists l.initial.out l.answers l.n l.out l.at l.i
-
-abbrev pub decreases-loop-i : goal.decreases-loop-i
-decreases-loop-i l = l.n - l.i
+abbrev pub invariant-loop-call : goal.invariant-loop-call
+invariant-loop-call l = Puts l.initial.out (lines_of l.call-index l.answers) l.out l.at

@@ -1,20 +1,22 @@
 -- `listing::turn::is_over` meets its contract.
-use mathlib.Core.Path.{ap, sym, ◌∙◌}
+use Rattle.std.proofs.Common.{◌≡◌, true, not, nat_eq, ap, sym, ◌∙◌, arith}
+use Rattle.std.proofs.lemmas.Bool.Decides.{nat_tests}
 use mir.Syntax.{w64}
 use mir.Val.{to_z, of_z}
-use Rattle.listing.proofs.Signs.{raw}
+use mir.Facts.{to_z-of_z}
 use Rattle.listing.proofs.Turns.{over_refused, over_ended, over_open}
 use Rattle.listing.proofs.turn.is_over.Goals as goal
 
+pub returns-then-code-ne-FILE_RUN : goal.returns-then-code-ne-FILE_RUN
+returns-then-code-ne-FILE_RUN c =
+    let refused : not (nat_eq (of_z w64 c.args.code) 0) ≡ true = grind (arith, nat_tests) in
+    refused ∙ over_refused c.args.ended c.args.code c.args.left (λ z. c.if-code-ne-FILE_RUN.true (ap (of_z w64) z))
+
 pub returns-then-ended : goal.returns-then-ended
 returns-then-ended c =
-    let a = c.args in
-    over_ended a.ended a.code a.left (sym (raw _ c.ranges.code) ∙ ap (to_z w64) c.if-code-eq-FILE_RUN.true) c.if-ended.true
+    over_ended c.args.ended c.args.code c.args.left (sym (to_z-of_z c.ranges.code) ∙ ap (to_z w64) c.if-code-ne-FILE_RUN.false) c.if-ended.true
 
-pub returns-then-code-eq-FILE_RUN : goal.returns-then-code-eq-FILE_RUN
-returns-then-code-eq-FILE_RUN c =
-    let a = c.args in
-    over_open a.ended a.code a.left (sym (raw _ c.ranges.code) ∙ ap (to_z w64) c.if-code-eq-FILE_RUN.true) c.if-ended.false
-
-pub returns : goal.returns
-returns c = let a = c.args in over_refused a.ended a.code a.left (λ z. c.if-code-eq-FILE_RUN.false (ap (of_z w64) z))
+pub returns-else-ended : goal.returns-else-ended
+returns-else-ended c =
+    c.if-ended.false
+    ∙ over_open c.args.ended c.args.code c.args.left (sym (to_z-of_z c.ranges.code) ∙ ap (to_z w64) c.if-code-ne-FILE_RUN.false) c.if-ended.false

@@ -1,24 +1,11 @@
 -- `listing::turn::list_turn` meets its contract.
-use Prim.Native.Nat.{◌≤◌}
-use mathlib.Core.Path.{◌≡◌, ap, sym, ◌∙◌}
-use native.Mathlib.Omega.{arith}
-use borrow.Author.Rules.{rules}
-use lib.IntN.{ℤ}
-use lib.ListN.{length}
-use lib.Seq.{length-take-le}
+use Rattle.std.proofs.Common.{◌≡◌, rules}
 use mir.Syntax.{w64}
 use mir.Val.{to_z, of_z}
-use Rattle.monitor.specs.Pieces.{is_over}
 use Rattle.monitor.specs.View.{view}
 use Rattle.listing.specs.Piece.{Shown, shown}
 use Rattle.listing.proofs.Turns.{turn_is}
 use Rattle.listing.proofs.turn.list_turn.Goals as goal
-
-pub slice_bounds-list_piece-end-2 : goal.slice_bounds-list_piece-end-2
-slice_bounds-list_piece-end-2 c =
-    let a = c.args in
-    let h : c.least-held.result ≤ length a.input.now = omega (arith, c.least-held.ensures) in
-    sym (length-take-le c.least-held.result a.input.now h)
 
 pub returns : goal.returns
 returns c =
@@ -28,6 +15,5 @@ returns c =
     let l = c.list_piece-listed in
     let r = l.result in
     let s : Shown = shown (view r.store.words) r.used r.written r.code l.new.answers l.new.out in
-    turn_is (view a.m.words) a.input.now a.count c.least-held.result a.ended a.answers.now a.out.now c.least-held.ensures
-    s l.ensures k.result k.ensures.kept k.new.buffer k.ensures.moved c.is_over-over.result
-    (c.is_over-over.ensures ∙ ap (λ (z : ℤ). is_over a.ended z k.result) same_code)
+    turn_is (view a.m.words) a.input.now a.count c.min-held.result a.ended a.answers.now a.out.now c.min-held.ensures
+    s l.ensures k.result k.ensures.kept k.new.buffer k.ensures.moved c.is_over.result (rw same_code at c.is_over.ensures)
