@@ -1,22 +1,15 @@
 -- Laws of decimal digits, fields and lines.
 -- Assumes nothing.
-use Rattle.std.proofs.Common.{◌≡◌, ℕ, zero, suc, ◌+◌, ◌-◌, ◌*◌, ◌/◌, ◌%◌, ◌^◌, ◌≤◌, ◌<◌, true, false, List, [], ◌∷◌, ◌++◌, ℤ, pos, negsuc, length, take, drop, get_or, refl, ap, sym, ◌∙◌, append_assoc, append-nil, length-append, length-drop, take-append-drop, add-one, arith}
-use mathlib.Core.Logic.{⊎_elim}
-use borrow.Author.Tests.{lt-ltb, le-ltb, ltb-true}
-use lib.IntN.{nat_abs}
-use lib.Signed.{lt_z}
-use lib.ListN.{get_or-append}
+use Rattle.std.proofs.Common.{◌≡◌, ℕ, zero, suc, ◌+◌, ◌-◌, ◌*◌, ◌/◌, ◌%◌, ◌^◌, ◌≤◌, ◌<◌, true, false, List, [], ◌∷◌, ◌++◌, ℤ, pos, negsuc, length, take, drop, get_or, refl, ap, sym, ◌∙◌, append_assoc, append-nil, length-append, length-drop, take-append-drop, add-one, arith, ⊎_elim, lt-ltb, le-ltb, ltb-true, nat_abs, length-take, length-take-le, drop-drop, zero-add, add-zero, suc-add, w64, SFits, to_z, of_z, to_z-of_z}
+use Rattle.std.specs.Int.Signed.{lt_z}
+use Rattle.std.proofs.Math.ListN.{get_or-append}
 use Rattle.std.specs.Simd.{first_chunks}
 use Rattle.std.specs.Fmt.{decimal as std_decimal}
 use Rattle.std.proofs.lemmas.Fmt.{AppendsLastDigit, decimal_from_appends, decimal_digit, decimal_step, length-decimal-le}
-use Rattle.std.proofs.lemmas.List.{length-take, length-take-le, drop-append-le, drop-drop}
+use Rattle.std.proofs.lemmas.List.{drop-append-le}
 use borrow.Rule.Slice.PartMut.{mid_of, put_mid}
-use native.Mathlib.Nat.{zero-add, add-zero, suc-add}
 use Rattle.number.proofs.Reading.{below_or_not}
 use Rattle.rules.proofs.Logic.{pick_true, pick_false}
-use mir.Syntax.{w64}
-use mir.Val.{SFits, to_z, of_z}
-use mir.Facts.{to_z-of_z}
 use Rattle.listing.proofs.Puts.{puts_then}
 use Rattle.listing.specs.Text.{Puts, digits_of, decimal, signed, sign, field, line_of, lines_of, refusal_line}
 

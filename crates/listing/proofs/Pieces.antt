@@ -1,13 +1,7 @@
 -- Laws of a piece that is run and listed.
 -- Assumes nothing.
-use Prim.Native.Nat.{ℕ, ◌+◌, ◌*◌, ◌/◌, ◌≤◌, ◌<◌}
-use mathlib.Core.Path.{◌≡◌, ap, sym, ◌∙◌, subst}
-use mathlib.Core.Bool.{Bool}
-use mathlib.Core.List.{List}
-use native.Mathlib.Omega.{arith}
-use borrow.Author.Tests.{le-leb, lt-leb, leb-true}
-use lib.IntN.{ℤ}
-use lib.ListN.{length, length-append}
+use Rattle.std.proofs.Common.{ℕ, ◌+◌, ◌*◌, ◌/◌, ◌≤◌, ◌<◌, ◌≡◌, ap, sym, ◌∙◌, subst, Bool, List, arith, le-leb, leb-true, ℤ, length, length-append}
+use borrow.Author.Tests.{lt-leb}
 use Rattle.rules.specs.Codes.{too_little_room}
 use Rattle.rules.specs.declared.Monitor.{Monitor}
 use Rattle.monitor.specs.File.{Passed, piece_of}

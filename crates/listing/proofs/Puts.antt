@@ -1,8 +1,7 @@
 -- Laws of texts that are put into a buffer one behind the other.
 -- Assumes nothing.
-use Rattle.std.proofs.Common.{◌≡◌, ℕ, suc, ◌+◌, ◌-◌, ◌≤◌, ◌<◌, List, [], ◌∷◌, ◌++◌, length, take, drop, refl, ap, sym, ◌∙◌, append_assoc, append-nil, length-append, length-drop, drop_of_length-le, add-one, arith}
-use lib.ListN.{set}
-use Rattle.std.proofs.lemmas.List.{length-take, take_at, drop_at, take_all, drop-drop, set_split}
+use Rattle.std.proofs.Common.{◌≡◌, ℕ, suc, ◌+◌, ◌-◌, ◌≤◌, ◌<◌, List, [], ◌∷◌, ◌++◌, length, take, drop, refl, ap, sym, ◌∙◌, append_assoc, append-nil, length-append, length-drop, drop_of_length-le, add-one, arith, set, length-take, take_at, drop_at, take_all, drop-drop}
+use Rattle.std.proofs.lemmas.List.{set_split}
 use borrow.Rule.Slice.PartMut.{mid_of, put_mid}
 use Rattle.listing.specs.Text.{Puts}
 

@@ -1,19 +1,10 @@
 -- Laws of a turn of the drill program.
 -- Assumes nothing.
-use Prim.Native.Nat.{ℕ, zero, suc, ◌-◌, ◌≤◌, ◌<◌, min}
-use mathlib.Core.Path.{◌≡◌, refl, ap, sym, ◌∙◌, subst}
-use mathlib.Core.Logic.{⊎_elim}
-use mathlib.Core.Bool.{Bool, true, false}
-use mathlib.Core.List.{List}
-use native.Mathlib.Omega.{arith}
-use lib.Dec.{eqb, leb}
-use lib.IntN.{ℤ, pos, negsuc}
-use lib.ListN.{length, take, drop, length-take, length-drop}
-use lib.Seq.{take_all, take-length, length-take-le}
-use Rattle.number.proofs.Reading.{below_or_not}
+use Rattle.std.proofs.Common.{◌&&◌, ℕ, zero, suc, ◌-◌, ◌≤◌, ◌<◌, min, ◌≡◌, refl, ap, sym, ◌∙◌, subst, ⊎_elim, Bool, true, false, List, arith, eqb, leb, ℤ, pos, negsuc, length, take, drop, length-take, length-drop, length-take-le}
+use Rattle.std.proofs.lemmas.Grind.{common_steps}
 use Rattle.rules.specs.Choice.{pick}
 use Rattle.rules.specs.declared.Monitor.{Monitor}
-use Rattle.rules.proofs.Logic.{pick_true, pick_false, by_test, not_both}
+use Rattle.rules.proofs.Logic.{by_test, not_both}
 use Rattle.rules.specs.Codes.{too_little_room}
 use Rattle.monitor.specs.File.{piece_of}
 use Rattle.monitor.specs.Pieces.{is_refused, is_over}
@@ -31,30 +22,15 @@ over_refused ended (pos zero) left h = absurd (h refl)
 over_refused ended (pos (suc n)) left h = refl
 over_refused ended (negsuc n) left h = refl
 
-module _ (ended : Bool) (code : ℤ) (left : ℕ) (e : code ≡ pos 0) where
-  on : pick ended (eqb left 0) false ≡ is_over ended code left
-  unfolding is_over is_refused pick
-  on = ap (λ (z : ℤ). is_over ended z left) (sym e)
-
-  pub over_ended : ended ≡ true → eqb left 0 ≡ is_over ended code left
-  over_ended h = sym (pick_true ended (eqb left 0) false h) ∙ on
-
-  pub over_open : ended ≡ false → false ≡ is_over ended code left
-  over_open h = sym (pick_false ended (eqb left 0) false h) ∙ on
+pub over_open : (ended : Bool) (code : ℤ) (left : ℕ) → code ≡ pos 0 → ended && eqb left 0 ≡ is_over ended code left
+unfolding is_over is_refused pick
+over_open true code left e = ap (λ (z : ℤ). is_over true z left) (sym e)
+over_open false code left e = ap (λ (z : ℤ). is_over false z left) (sym e)
 
 -- ---- the turn
 
 take_min : (count : ℕ) (input : List ℕ) → take (min count (length input)) input ≡ take count input
-take_min count input =
-    ⊎_elim (λ h. ap (λ (n : ℕ). take n input) (few h))
-    (λ h. ap (λ (n : ℕ). take n input) (many h) ∙ take-length input ∙ sym (take_all count input h))
-    (below_or_not count (length input))
-  where
-    few : suc count ≤ length input → min count (length input) ≡ count
-    few h = omega arith
-
-    many : length input ≤ count → min count (length input) ≡ length input
-    many h = omega arith
+take_min count input = grind (arith, common_steps)
 
 -- the piece that the bytes in hand make was run and listed, what it leaves was moved, and the end was looked for
 module _ (m : Monitor) (input : List ℕ) (count held : ℕ) (ended : Bool) (answers : List ℤ) (out : List ℕ) (h : held ≡ min count (length input)) where

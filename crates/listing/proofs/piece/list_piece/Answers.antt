@@ -1,7 +1,5 @@
 -- `listing::piece::list_piece` meets its contract.
-use Rattle.std.proofs.Common.{◌≡◌, ◌*◌, length-take, arith, rules}
-use mir.Syntax.{w64}
-use mir.Val.{to_z, of_z}
+use Rattle.std.proofs.Common.{◌≡◌, ◌*◌, length-take, arith, rules, w64, to_z, of_z}
 use Rattle.monitor.specs.File.{passed}
 use Rattle.monitor.specs.View.{view}
 use Rattle.listing.proofs.Digits.{lines_taken, lines_short}

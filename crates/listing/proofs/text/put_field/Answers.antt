@@ -1,6 +1,5 @@
 -- `text::put_field` meets its contract.
-use Rattle.std.proofs.Common.{arith}
-use mir.Facts.{to_z-of_z}
+use Rattle.std.proofs.Common.{arith, to_z-of_z}
 use Rattle.listing.proofs.Digits.{decimal_short, sign_short, field_is}
 use Rattle.listing.proofs.Puts.{part_long, puts_byte, puts_then, puts_long}
 use Rattle.listing.proofs.text.put_field.Goals as goal

@@ -1,8 +1,5 @@
 -- `text::put_refusal` meets its contract.
-use Rattle.std.proofs.Common.{sym, ap, ◌∙◌}
-use mir.Syntax.{w64}
-use mir.Val.{to_z, of_z}
-use mir.Facts.{to_z-of_z}
+use Rattle.std.proofs.Common.{sym, ap, ◌∙◌, w64, to_z, of_z, to_z-of_z}
 use Rattle.listing.proofs.Digits.{field_read, refusal_none, refusal_some}
 use Rattle.listing.proofs.Puts.{puts_none}
 use Rattle.listing.proofs.text.put_refusal.Goals as goal

@@ -1,5 +1,5 @@
 -- `text::put_sign` meets its contract.
-use mir.Facts.{to_z-of_z}
+use Rattle.std.proofs.Common.{to_z-of_z}
 use Rattle.listing.proofs.Digits.{sign_some, sign_none}
 use Rattle.listing.proofs.Puts.{puts_none, puts_byte}
 use Rattle.listing.proofs.text.put_sign.Goals as goal

@@ -1,10 +1,7 @@
 -- `listing::turn::is_over` meets its contract.
-use Rattle.std.proofs.Common.{◌≡◌, true, not, nat_eq, ap, sym, ◌∙◌, arith}
+use Rattle.std.proofs.Common.{Bool, ◌&&◌, ◌≡◌, true, not, nat_eq, ap, sym, ◌∙◌, arith, w64, to_z, of_z, to_z-of_z}
 use Rattle.std.proofs.lemmas.Bool.Decides.{nat_tests}
-use mir.Syntax.{w64}
-use mir.Val.{to_z, of_z}
-use mir.Facts.{to_z-of_z}
-use Rattle.listing.proofs.Turns.{over_refused, over_ended, over_open}
+use Rattle.listing.proofs.Turns.{over_refused, over_open}
 use Rattle.listing.proofs.turn.is_over.Goals as goal
 
 pub returns-then-code-ne-FILE_RUN : goal.returns-then-code-ne-FILE_RUN
@@ -14,9 +11,11 @@ returns-then-code-ne-FILE_RUN c =
 
 pub returns-then-ended : goal.returns-then-ended
 returns-then-ended c =
-    over_ended c.args.ended c.args.code c.args.left (sym (to_z-of_z c.ranges.code) ∙ ap (to_z w64) c.if-code-ne-FILE_RUN.false) c.if-ended.true
+    ap (λ (b : Bool). b && nat_eq c.args.left 0) (sym c.if-ended.true)
+    ∙ over_open c.args.ended c.args.code c.args.left (sym (to_z-of_z c.ranges.code) ∙ ap (to_z w64) c.if-code-ne-FILE_RUN.false)
 
 pub returns-else-ended : goal.returns-else-ended
 returns-else-ended c =
     c.if-ended.false
-    ∙ over_open c.args.ended c.args.code c.args.left (sym (to_z-of_z c.ranges.code) ∙ ap (to_z w64) c.if-code-ne-FILE_RUN.false) c.if-ended.false
+    ∙ ap (λ (b : Bool). b && nat_eq c.args.left 0) (sym c.if-ended.false)
+    ∙ over_open c.args.ended c.args.code c.args.left (sym (to_z-of_z c.ranges.code) ∙ ap (to_z w64) c.if-code-ne-FILE_RUN.false)

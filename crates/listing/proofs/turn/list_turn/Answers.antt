@@ -1,7 +1,5 @@
 -- `listing::turn::list_turn` meets its contract.
-use Rattle.std.proofs.Common.{◌≡◌, rules}
-use mir.Syntax.{w64}
-use mir.Val.{to_z, of_z}
+use Rattle.std.proofs.Common.{◌≡◌, rules, w64, to_z, of_z}
 use Rattle.monitor.specs.View.{view}
 use Rattle.listing.specs.Piece.{Shown, shown}
 use Rattle.listing.proofs.Turns.{turn_is}
