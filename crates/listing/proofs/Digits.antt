@@ -120,14 +120,36 @@ unfolding lines_of
 lines_short zero answers = omega arith
 lines_short (suc n) answers = simp length-append (omega (arith, line_short answers, lines_short n (drop 6 answers)))
 
--- the next line behind the lines
-pub lines_next : (answers : List ℤ) {l m rest : List ℕ} {n i k : ℕ} → Puts l (lines_of n answers) m i → i ≤ length m → n < length answers / 6
-    → Puts (mid_of i (length m - i) m) (line_of (get_or (first_chunks 6 (length answers / 6) answers) n [])) rest k
-    → Puts l (lines_of (n + 1) answers) (put_mid i (length m - i) m rest) (i + k)
-lines_next answers {n = n} p h few q =
-    rw (add-one n, lines_more n answers)
-    (puts_then p h
-    (rw (call_is (length answers / 6) n answers few, line_taken (drop (n * 6) answers) (omega (arith, length-drop (n * 6) answers))) at q))
+-- The lines of the first n calls have been put, and of the next one so many fields: there is room for one more.
+pub lines_room : {l m : List ℕ} (answers : List ℤ) (n : ℕ) (call : List ℤ) (few : ℕ) {i : ℕ}
+    → Puts l (lines_of n answers ++ fields_of call few) m i → i ≤ n * 132 + few * 22
+lines_room answers n call few p =
+    omega (arith, p.ends, length-append (lines_of n answers) (fields_of call few), lines_short n answers, fields_short call few)
+
+module _ {l m rest : List ℕ} {i k : ℕ} (answers : List ℤ) (n : ℕ) (call : List ℤ) where
+  pub field_next : (few : ℕ) → Puts l (lines_of n answers ++ fields_of call few) m i → i ≤ length m
+      → Puts (mid_of i (length m - i) m) (field (get_or call few (pos 0)) 32) rest k
+      → Puts l (lines_of n answers ++ fields_of call (few + 1)) (put_mid i (length m - i) m rest) (i + k)
+  field_next few p h q =
+      rw (fields_more call few, ← append_assoc (lines_of n answers) (fields_of call few) (field (get_or call few (pos 0)) 32)) (puts_then p h q)
+
+  pub line_next : n < length answers / 6 → call ≡ get_or (first_chunks 6 (length answers / 6) answers) n []
+      → Puts l (lines_of n answers ++ fields_of call 5) m i → i ≤ length m
+      → Puts (mid_of i (length m - i) m) (field (get_or call 5 (pos 0)) 10) rest k
+      → Puts l (lines_of (n + 1) answers) (put_mid i (length m - i) m rest) (i + k)
+  line_next less e p h q =
+      let line : fields_of call 5 ++ field (get_or call 5 (pos 0)) 10 ≡ line_of (drop (n * 6) answers) =
+      line_is call
+      ∙ ap line_of (e ∙ call_is (length answers / 6) n answers less)
+      ∙ line_taken (drop (n * 6) answers) (omega (arith, length-drop (n * 6) answers))
+      in
+      rw (add-one n, lines_more n answers, ← line, ← append_assoc (lines_of n answers) (fields_of call 5) (field (get_or call 5 (pos 0)) 10)) (puts_then p h q)
+
+pub call_long : (answers : List ℤ) (n : ℕ) (call : List ℤ) → n < length answers / 6 → call ≡ get_or (first_chunks 6 (length answers / 6) answers) n []
+    → length call ≡ 6
+call_long answers n call less e =
+    ap length (e ∙ call_is (length answers / 6) n answers less)
+    ∙ length-take-le 6 (drop (n * 6) answers) (omega (arith, length-drop (n * 6) answers))
 
 pub lines_append : (a b : ℕ) (xs ys : List ℤ) → length xs ≡ a * 6 → lines_of (a + b) (xs ++ ys) ≡ lines_of a xs ++ lines_of b ys
 unfolding lines_of

@@ -1,6 +1,6 @@
 // Numbers and lines, put at the front of a lent buffer.
 ghost use Rattle.std.specs.Prelude.{◌*◌, ◌/◌, ◌<◌, ◌≤◌, length};
-ghost use Rattle.listing.specs.Text.{sign, decimal, field, line_of, lines_of, refusal_line, Puts};
+ghost use Rattle.listing.specs.Text.{sign, decimal, field, lines_of, refusal_line, Puts};
 
 use rules::codes;
 
@@ -41,19 +41,7 @@ fn put_field(out: &mut [u8], n: i64, after: u8) -> usize
     at + 1
 }
 
-// A line: six answers, one space between, a line feed at the end.
-fn put_line(out: &mut [u8], answers: &[i64; 6]) -> usize
-    requires { 132 ≤ length out.old }
-    ensures { Puts out.old (line_of answers.now) out.new result }
-{
-    let mut at = 0;
-    for n in &answers[..5] {
-        at += put_field(&mut out[at..], *n, b' ');
-    }
-    at + put_field(&mut out[at..], answers[5], b'\n')
-}
-
-// The lines of the answers.
+// The lines of the answers: six on a line, one space between, a line feed at the end.
 pub(crate) fn put_lines(out: &mut [u8], answers: &[i64]) -> usize
     requires { length answers.now / 6 * 132 ≤ length out.old }
     ensures { Puts out.old (lines_of (length answers.now / 6) answers.now) out.new result }
@@ -61,7 +49,10 @@ pub(crate) fn put_lines(out: &mut [u8], answers: &[i64]) -> usize
     let (calls, _) = answers.as_chunks::<6>();
     let mut at = 0;
     for call in calls {
-        at += put_line(&mut out[at..], call);
+        for n in &call[..5] {
+            at += put_field(&mut out[at..], *n, b' ');
+        }
+        at += put_field(&mut out[at..], call[5], b'\n');
     }
     at
 }

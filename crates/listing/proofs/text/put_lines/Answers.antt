@@ -1,7 +1,7 @@
 -- `text::put_lines` meets its contract.
-use Rattle.std.proofs.Common.{arith}
+use Rattle.std.proofs.Common.{◌≡◌, ◌<◌, ◌/◌, length, get_or, get_or-take, length-take, take, [], pos, append-nil, ap, arith, rules}
 use Rattle.listing.specs.Text.{lines_of}
-use Rattle.listing.proofs.Digits.{lines_next, lines_short}
+use Rattle.listing.proofs.Digits.{field_read, fields_of, call_long, lines_room, field_next, line_next}
 use Rattle.listing.proofs.Puts.{part_long, puts_none}
 use Rattle.listing.proofs.text.put_lines.Goals as goal
 
@@ -9,9 +9,50 @@ pub loop-call-init : goal.loop-call-init
 unfolding lines_of
 loop-call-init c = puts_none c.args.out.now
 
-pub put_line-at-requires : goal.put_line-at-requires
-put_line-at-requires c = omega (arith, part_long c.loop-call.at c.loop-call.out, lines_short c.loop-call.call-index c.args.answers.now)
+pub loop-n-init : goal.loop-n-init
+unfolding fields_of
+loop-n-init c = rw (append-nil (lines_of c.loop-call.call-index c.args.answers.now)) c.loop-call.invariant
+
+pub put_field-at-requires : goal.put_field-at-requires
+put_field-at-requires c =
+    let call = get_or c.as_chunks.result.0.now c.loop-call.call-index [] in
+    omega (
+      arith,
+      part_long c.loop-n.at c.loop-n.out,
+      lines_room c.args.answers.now c.loop-call.call-index call c.loop-n.n-index c.loop-n.invariant,
+      length-take 5 call,
+      c.as_chunks.ensures.front_len,
+    )
+
+pub loop-n-preserved : goal.loop-n-preserved
+loop-n-preserved c =
+    let call = get_or c.as_chunks.result.0.now c.loop-call.call-index [] in
+    let n = c.loop-n.n-index in
+    let field = field_read (get_or (take 5 call) n (pos 0)) 32 c.put_field-at.ensures (search rules) in
+    let few : n < 5 = omega (arith, length-take 5 call) in
+    field_next c.args.answers.now c.loop-call.call-index call n c.loop-n.invariant
+    (omega (arith, lines_room c.args.answers.now c.loop-call.call-index call n c.loop-n.invariant, c.as_chunks.ensures.front_len))
+    (rw (get_or-take 5 call n (pos 0) few) at field)
+
+pub put_field-at-requires-in-loop-call : goal.put_field-at-requires-in-loop-call
+put_field-at-requires-in-loop-call c =
+    let call = get_or c.as_chunks.result.0.now c.loop-call.call-index [] in
+    omega (
+      arith,
+      part_long c.loop-n.at c.loop-n.out,
+      lines_room c.args.answers.now c.loop-call.call-index call c.loop-n.n-index c.loop-n.invariant,
+      length-take 5 call,
+      c.as_chunks.ensures.front_len,
+    )
 
 pub loop-call-preserved : goal.loop-call-preserved
 loop-call-preserved c =
-    lines_next c.args.answers.now c.loop-call.invariant (omega (arith, lines_short c.loop-call.call-index c.args.answers.now)) (omega arith) (rw c.as_chunks.ensures.front at c.put_line-at.ensures)
+    let i = c.loop-call.call-index in
+    let answers = c.args.answers.now in
+    let call = get_or c.as_chunks.result.0.now i [] in
+    let field = field_read (get_or call 5 (pos 0)) 10 c.put_field-at-in-loop-call.ensures (search rules) in
+    let less : i < length answers / 6 = omega (arith, c.as_chunks.ensures.front_len) in
+    let same = ap (λ calls. get_or calls i []) c.as_chunks.ensures.front in
+    let five : c.loop-n.n-index ≡ 5 = omega (arith, length-take 5 call, call_long answers i call less same) in
+    line_next answers i call less same (rw five at c.loop-n.invariant)
+    (omega (arith, lines_room answers i call c.loop-n.n-index c.loop-n.invariant)) field
