@@ -67,7 +67,7 @@ impl TxCall {
 }
 
 // The next state of each call in each state; a blank is None.
-const NEXT: [[Option<State>; 5]; 9] = [
+static NEXT: [[Option<State>; 5]; 9] = [
     // tx_open
     [Some(S1), Some(S1), Some(S2), Some(S3), Some(S4)],
     // tx_close
