@@ -1,13 +1,12 @@
 -- Laws of decimal digits, fields and lines.
 -- Assumes nothing.
-use Rattle.std.proofs.Common.{◌≡◌, ℕ, zero, suc, ◌+◌, ◌-◌, ◌*◌, ◌/◌, ◌%◌, ◌^◌, ◌≤◌, ◌<◌, true, false, List, [], ◌∷◌, ◌++◌, ℤ, pos, negsuc, length, take, drop, get_or, refl, ap, sym, ◌∙◌, append_assoc, append-nil, length-append, length-drop, take-append-drop, add-one, arith, ⊎_elim, lt-ltb, le-ltb, ltb-true, nat_abs, length-take, length-take-le, drop-drop, zero-add, add-zero, suc-add, w64, SFits, to_z, of_z, to_z-of_z}
+use Rattle.std.proofs.Common.{◌≡◌, ℕ, zero, suc, ◌+◌, ◌*◌, ◌/◌, ◌%◌, ◌^◌, ◌≤◌, ◌<◌, true, false, List, [], ◌∷◌, ◌++◌, ℤ, pos, negsuc, length, take, drop, get_or, refl, ap, sym, ◌∙◌, append_assoc, append-nil, length-append, length-drop, take-append-drop, add-one, arith, ⊎_elim, lt-ltb, le-ltb, ltb-true, nat_abs, length-take, length-take-le, drop-drop, zero-add, add-zero, suc-add, w64, SFits, to_z, of_z, to_z-of_z}
 use Rattle.std.specs.Int.Signed.{lt_z}
 use Rattle.std.proofs.Math.ListN.{get_or-append}
 use Rattle.std.specs.Simd.{first_chunks}
 use Rattle.std.specs.Fmt.{decimal as std_decimal}
 use Rattle.std.proofs.lemmas.Fmt.{AppendsLastDigit, decimal_from_appends, decimal_digit, decimal_step, length-decimal-le}
 use Rattle.std.proofs.lemmas.List.{drop-append-le}
-use borrow.Rule.Slice.PartMut.{mid_of, put_mid}
 use Rattle.number.proofs.Reading.{below_or_not}
 use Rattle.rules.proofs.Logic.{pick_true, pick_false}
 use Rattle.listing.proofs.Puts.{puts_then}
@@ -67,7 +66,7 @@ pub field_short : (z : ℤ) (after : ℕ) → length (field z after) ≤ 22
 field_short z after = rw (field_is z after (nat_abs z) refl) (simp length-append (omega (arith, sign_short z, decimal_short (nat_abs z))))
 
 -- a field of a number that was read
-pub field_read : (z : ℤ) (after : ℕ) {l m : List ℕ} {i : ℕ} → Puts l (field (to_z w64 (of_z w64 z)) after) m i → SFits w64 z → Puts l (field z after) m i
+pub field_read : (z : ℤ) (after : ℕ) {l m : List ℕ} {i j : ℕ} → Puts l i (field (to_z w64 (of_z w64 z)) after) m j → SFits w64 z → Puts l i (field z after) m j
 field_read z after p fits = rw (to_z-of_z fits) at p
 
 -- ---- lines
@@ -121,29 +120,27 @@ lines_short zero answers = omega arith
 lines_short (suc n) answers = simp length-append (omega (arith, line_short answers, lines_short n (drop 6 answers)))
 
 -- The lines of the first n calls have been put, and of the next one so many fields: there is room for one more.
-pub lines_room : {l m : List ℕ} (answers : List ℤ) (n : ℕ) (call : List ℤ) (few : ℕ) {i : ℕ}
-    → Puts l (lines_of n answers ++ fields_of call few) m i → i ≤ n * 132 + few * 22
+pub lines_room : {l m : List ℕ} (answers : List ℤ) (n : ℕ) (call : List ℤ) (few : ℕ) {at : ℕ}
+    → Puts l 0 (lines_of n answers ++ fields_of call few) m at → at ≤ n * 132 + few * 22
 lines_room answers n call few p =
     omega (arith, p.ends, length-append (lines_of n answers) (fields_of call few), lines_short n answers, fields_short call few)
 
-module _ {l m rest : List ℕ} {i k : ℕ} (answers : List ℤ) (n : ℕ) (call : List ℤ) where
-  pub field_next : (few : ℕ) → Puts l (lines_of n answers ++ fields_of call few) m i → i ≤ length m
-      → Puts (mid_of i (length m - i) m) (field (get_or call few (pos 0)) 32) rest k
-      → Puts l (lines_of n answers ++ fields_of call (few + 1)) (put_mid i (length m - i) m rest) (i + k)
-  field_next few p h q =
-      rw (fields_more call few, ← append_assoc (lines_of n answers) (fields_of call few) (field (get_or call few (pos 0)) 32)) (puts_then p h q)
+module _ {l m more : List ℕ} {at end : ℕ} (answers : List ℤ) (n : ℕ) (call : List ℤ) where
+  pub field_next : (few : ℕ) → Puts l 0 (lines_of n answers ++ fields_of call few) m at → Puts m at (field (get_or call few (pos 0)) 32) more end
+      → Puts l 0 (lines_of n answers ++ fields_of call (few + 1)) more end
+  field_next few p q =
+      rw (fields_more call few, ← append_assoc (lines_of n answers) (fields_of call few) (field (get_or call few (pos 0)) 32)) (puts_then p q)
 
   pub line_next : n < length answers / 6 → call ≡ get_or (first_chunks 6 (length answers / 6) answers) n []
-      → Puts l (lines_of n answers ++ fields_of call 5) m i → i ≤ length m
-      → Puts (mid_of i (length m - i) m) (field (get_or call 5 (pos 0)) 10) rest k
-      → Puts l (lines_of (n + 1) answers) (put_mid i (length m - i) m rest) (i + k)
-  line_next less e p h q =
+      → Puts l 0 (lines_of n answers ++ fields_of call 5) m at → Puts m at (field (get_or call 5 (pos 0)) 10) more end
+      → Puts l 0 (lines_of (n + 1) answers) more end
+  line_next less e p q =
       let line : fields_of call 5 ++ field (get_or call 5 (pos 0)) 10 ≡ line_of (drop (n * 6) answers) =
       line_is call
       ∙ ap line_of (e ∙ call_is (length answers / 6) n answers less)
       ∙ line_taken (drop (n * 6) answers) (omega (arith, length-drop (n * 6) answers))
       in
-      rw (add-one n, lines_more n answers, ← line, ← append_assoc (lines_of n answers) (fields_of call 5) (field (get_or call 5 (pos 0)) 10)) (puts_then p h q)
+      rw (add-one n, lines_more n answers, ← line, ← append_assoc (lines_of n answers) (fields_of call 5) (field (get_or call 5 (pos 0)) 10)) (puts_then p q)
 
 pub call_long : (answers : List ℤ) (n : ℕ) (call : List ℤ) → n < length answers / 6 → call ≡ get_or (first_chunks 6 (length answers / 6) answers) n []
     → length call ≡ 6

@@ -1,7 +1,8 @@
 -- Laws of a piece that is run and listed.
 -- Assumes nothing.
-use Rattle.std.proofs.Common.{ℕ, ◌+◌, ◌*◌, ◌/◌, ◌≤◌, ◌<◌, ◌≡◌, ap, sym, ◌∙◌, subst, Bool, List, arith, le-leb, leb-true, ℤ, length, length-append}
+use Rattle.std.proofs.Common.{drop, ◌++◌, ℕ, ◌+◌, ◌*◌, ◌/◌, ◌≤◌, ◌<◌, ◌≡◌, ap, sym, ◌∙◌, subst, Bool, List, arith, le-leb, leb-true, ℤ, length, length-append}
 use borrow.Author.Tests.{lt-leb}
+use Rattle.std.proofs.Math.Seq.{sets-eq}
 use Rattle.rules.specs.Codes.{too_little_room}
 use Rattle.rules.specs.declared.Monitor.{Monitor}
 use Rattle.monitor.specs.File.{Passed, piece_of}
@@ -24,12 +25,15 @@ module _ (m : Monitor) (input : List ℕ) (last : Bool) (answers : List ℤ) (ou
   listed_little h = sym (pick_false _ _ _ (lt-leb (text_room answers) (length out) h))
 
   pub listed_enough : text_room answers ≤ length out → (p : Passed) → p ≡ piece_of m input last answers
-      → (after : List ℕ) (written : ℕ) → Puts out (text_of p) after written
+      → (after : List ℕ) (written : ℕ) → Puts out 0 (text_of p) after written
       → shown p.monitor p.used written p.code p.places after ≡ listed_of m input last answers out
   unfolding listed_of
   listed_enough h p same after written puts =
-      ap (λ (w : ℕ). shown p.monitor p.used w p.code p.places after) puts.ends
-      ∙ ap (shown p.monitor p.used (length (text_of p)) p.code p.places) puts.makes
+      let fits : 0 + length (text_of p) ≤ length out = omega (arith, text_short p, few_calls m input last answers same) in
+      let none : 0 + length (text_of p) ≡ length (text_of p) = omega arith in
+      ap (λ (w : ℕ). shown p.monitor p.used w p.code p.places after) (puts.ends ∙ none)
+      ∙ ap (shown p.monitor p.used (length (text_of p)) p.code p.places)
+      (puts.makes ∙ sets-eq (text_of p) out 0 fits ∙ ap (λ (n : ℕ). text_of p ++ drop n out) none)
       ∙ ap (λ (q : Passed). listing q out) same
       ∙ sym (pick_true _ _ _ (le-leb (text_room answers) (length out) h))
 

@@ -11,8 +11,7 @@ use Rattle.monitor.specs.Pieces.{is_refused, is_over}
 use Rattle.monitor.proofs.Pieces.{piece_moves}
 use Rattle.listing.specs.Piece.{Shown, shown, listing, text_room, listed_of}
 use Rattle.listing.proofs.Pieces.{listed_fits}
-use Rattle.listing.specs.Text.{at_front}
-use Rattle.listing.specs.Turn.{Turned, turned, leaving, turned_of}
+use Rattle.listing.specs.Turn.{Turned, turned, at_front, leaving, turned_of}
 
 -- ---- is the file over
 

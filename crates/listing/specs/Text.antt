@@ -2,16 +2,13 @@
 -- Assumes nothing.
 use Rattle.std.specs.Prelude.{◌≡◌, ℕ, zero, suc, ◌+◌, ◌/◌, ◌%◌, List, [], ◌∷◌, ◌++◌, ltb, ℤ, pos, negsuc, nat_abs, length, get_or, drop}
 use Rattle.std.specs.Int.Signed.{lt_z}
+use Rattle.std.proofs.lemmas.List.Edits.{sets}
 use Rattle.rules.specs.Choice.{pick}
 
--- these bytes at the front of a buffer, and the rest of it as it was
-abbrev pub at_front : List ℕ → List ℕ → List ℕ
-at_front bytes buffer = bytes ++ drop (length bytes) buffer
-
--- A text has been put at the front of a buffer, which makes another, and ends at a place.
-pub record Puts (before text after : List ℕ) (end : ℕ) : Type 0 where
-  pub ends : end ≡ length text
-  pub makes : after ≡ at_front text before
+-- A text has been put into a buffer at a place, which makes another, and ends at a place.
+pub record Puts (before : List ℕ) (from : ℕ) (text after : List ℕ) (to : ℕ) : Type 0 where
+  pub ends : to ≡ from + length text
+  pub makes : after ≡ sets before from text
 
 -- the decimal digits of a number that `most` digits can hold, the most significant first
 unfoldable pub digits_of : ℕ → ℕ → List ℕ

@@ -5,7 +5,6 @@ use Rattle.std.specs.Prelude.{ℕ, zero, suc, ◌+◌, Bool, true, false, List, 
 use Rattle.rules.specs.Choice.{pick}
 use Rattle.rules.specs.declared.Monitor.{Monitor}
 use Rattle.monitor.specs.Pieces.{is_over}
-use Rattle.listing.specs.Text.{at_front}
 use Rattle.listing.specs.Piece.{Shown, listed_of}
 
 -- What a turn gives: the record afterwards, how many bytes are kept, how many bytes of text there are, whether the file is over, and the three lent lists
@@ -22,6 +21,10 @@ pub record Turned : Type 0 where
 abbrev pub turned : Monitor → ℕ → ℕ → Bool → List ℕ → List ℤ → List ℕ → Turned
 turned m kept written over input places text =
     record { monitor = m; kept = kept; written = written; over = over; input = input; places = places; text = text }
+
+-- these bytes at the front of a buffer, and the rest of it as it was
+abbrev pub at_front : List ℕ → List ℕ → List ℕ
+at_front bytes buffer = bytes ++ drop (length bytes) buffer
 
 -- a piece that was run and listed, and the bytes that it leaves
 abbrev pub leaving : Bool → List ℕ → Shown → List ℕ → Turned

@@ -33,11 +33,11 @@ pub fn list_piece(m: Store, input: &[u8], last: bool, answers: &mut [i64], out: 
     }
     let ran = run_piece(m, input, last, &mut *answers);
     let lines = put_lines(&mut *out, &answers[..ran.calls * 6]);
-    let refusal = put_refusal(&mut out[lines..], ran.code);
+    let written = put_refusal(&mut *out, lines, ran.code);
     Listed {
         store: ran.store,
         used: ran.used,
-        written: lines + refusal,
+        written,
         code: ran.code,
     }
 }

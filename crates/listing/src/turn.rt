@@ -2,8 +2,7 @@
 ghost use Rattle.std.specs.Prelude.{◌≡◌, ◌-◌, ◌≤◌, length, take, drop};
 ghost use Rattle.monitor.specs.Pieces.{is_over};
 ghost use Rattle.monitor.specs.View.{view};
-ghost use Rattle.listing.specs.Text.{at_front};
-ghost use Rattle.listing.specs.Turn.{turned, turned_of};
+ghost use Rattle.listing.specs.Turn.{turned, at_front, turned_of};
 
 use super::piece::list_piece;
 use monitor::Store;

@@ -3,7 +3,7 @@ use Rattle.std.proofs.Common.{◌≡◌, ◌*◌, length-take, arith, rules, w64
 use Rattle.monitor.specs.File.{passed}
 use Rattle.monitor.specs.View.{view}
 use Rattle.listing.proofs.Digits.{lines_taken, lines_short}
-use Rattle.listing.proofs.Puts.{part_long, puts_then}
+use Rattle.listing.proofs.Puts.{puts_then}
 use Rattle.listing.proofs.Pieces.{few_calls, listed_little, listed_enough}
 use Rattle.listing.proofs.piece.list_piece.Goals as goal
 use Rattle.listing.proofs.piece.list_piece.Goals.{then-room-lt22-via-then-room-lt22, then-room-lt22-via-else-room-lt22+then-room-answers}
@@ -31,13 +31,13 @@ slice_bounds-put_lines-end-2 c =
     let few = few_calls _ _ _ _ c.run_piece-ran.ensures in
     omega (arith, c.run_piece-ran.auto.answers, length-take (c.run_piece-ran.result.calls * 6) c.run_piece-ran.new.answers)
 
-pub put_refusal-refusal-requires : goal.put_refusal-refusal-requires
-put_refusal-refusal-requires c =
+pub put_refusal-written-requires : goal.put_refusal-written-requires
+put_refusal-written-requires c =
     let few = few_calls _ _ _ _ c.run_piece-ran.ensures in
     let calls = c.run_piece-ran.result.calls in
     let answers = c.run_piece-ran.new.answers in
     let lines = rw (lines_taken calls answers (omega arith)) at c.put_lines-lines.ensures in
-    omega (arith, part_long c.put_lines-lines.result c.put_lines-lines.new.out, lines_short calls answers)
+    omega (arith, lines_short calls answers)
 
 pub returns : goal.returns
 returns c =
@@ -48,4 +48,4 @@ returns c =
     let lines = rw (lines_taken r.calls answers (omega arith)) at c.put_lines-lines.ensures in
     rw raw
     (listed_enough _ _ _ _ _ (omega arith) (passed (view r.store.words) r.code r.calls r.used answers) c.run_piece-ran.ensures _ _
-    (puts_then lines (omega (arith, lines_short r.calls answers)) (rw raw at c.put_refusal-refusal.ensures)))
+    (puts_then lines (rw raw at c.put_refusal-written.ensures)))

@@ -4,13 +4,11 @@ use Rattle.listing.proofs.Digits.{decimal_last, decimal_more}
 use Rattle.listing.proofs.Puts.{puts_none, puts_byte}
 use Rattle.listing.proofs.text.+put_digits.Goals as goal
 
-pub bounds-out-0 : goal.bounds-out-0
-bounds-out-0 t c = omega (arith, ap length (decimal_last c.args.n c.if-n-lt10.true))
+pub bounds-out-at : goal.bounds-out-at
+bounds-out-at t c = omega (arith, ap length (decimal_last c.args.n c.if-n-lt10.true))
 
 pub returns-then-n-lt10 : goal.returns-then-n-lt10
-returns-then-n-lt10 t c =
-    let some = ap length (decimal_last c.args.n c.if-n-lt10.true) in
-    rw (decimal_last c.args.n c.if-n-lt10.true) (puts_byte (puts_none c.args.out.now) _ (omega arith))
+returns-then-n-lt10 t c = rw (decimal_last c.args.n c.if-n-lt10.true) (puts_byte (puts_none c.args.out.now c.args.at) _)
 
 pub put_digits-last-requires : goal.put_digits-last-requires
 put_digits-last-requires t c =
@@ -23,6 +21,9 @@ bounds-out-last t c =
     omega arith
 
 pub returns : goal.returns
-returns t c =
+returns t c = rw (decimal_more c.args.n c.if-n-lt10.false c.ranges.n.fits) (puts_byte c.put_digits-last.ensures _)
+
+pub overflow_add-result-2 : goal.overflow_add-result-2
+overflow_add-result-2 t c =
     let long = simp length-append at (ap length (decimal_more c.args.n c.if-n-lt10.false c.ranges.n.fits)) in
-    rw (decimal_more c.args.n c.if-n-lt10.false c.ranges.n.fits) (puts_byte c.put_digits-last.ensures _ (omega arith))
+    record { fits = omega arith }

@@ -2,12 +2,12 @@
 use Rattle.std.proofs.Common.{◌≡◌, ◌<◌, ◌/◌, length, get_or, get_or-take, length-take, take, [], pos, append-nil, ap, arith, rules}
 use Rattle.listing.specs.Text.{lines_of}
 use Rattle.listing.proofs.Digits.{field_read, fields_of, call_long, lines_room, field_next, line_next}
-use Rattle.listing.proofs.Puts.{part_long, puts_none}
+use Rattle.listing.proofs.Puts.{puts_none}
 use Rattle.listing.proofs.text.put_lines.Goals as goal
 
 pub loop-call-init : goal.loop-call-init
 unfolding lines_of
-loop-call-init c = puts_none c.args.out.now
+loop-call-init c = puts_none c.args.out.now 0
 
 pub loop-n-init : goal.loop-n-init
 unfolding fields_of
@@ -18,7 +18,6 @@ put_field-at-requires c =
     let call = get_or c.as_chunks.result.0.now c.loop-call.call-index [] in
     omega (
       arith,
-      part_long c.loop-n.at c.loop-n.out,
       lines_room c.args.answers.now c.loop-call.call-index call c.loop-n.n-index c.loop-n.invariant,
       length-take 5 call,
       c.as_chunks.ensures.front_len,
@@ -31,7 +30,6 @@ loop-n-preserved c =
     let field = field_read (get_or (take 5 call) n (pos 0)) 32 c.put_field-at.ensures (search rules) in
     let few : n < 5 = omega (arith, length-take 5 call) in
     field_next c.args.answers.now c.loop-call.call-index call n c.loop-n.invariant
-    (omega (arith, lines_room c.args.answers.now c.loop-call.call-index call n c.loop-n.invariant, c.as_chunks.ensures.front_len))
     (rw (get_or-take 5 call n (pos 0) few) at field)
 
 pub put_field-at-requires-in-loop-call : goal.put_field-at-requires-in-loop-call
@@ -39,7 +37,6 @@ put_field-at-requires-in-loop-call c =
     let call = get_or c.as_chunks.result.0.now c.loop-call.call-index [] in
     omega (
       arith,
-      part_long c.loop-n.at c.loop-n.out,
       lines_room c.args.answers.now c.loop-call.call-index call c.loop-n.n-index c.loop-n.invariant,
       length-take 5 call,
       c.as_chunks.ensures.front_len,
@@ -54,5 +51,4 @@ loop-call-preserved c =
     let less : i < length answers / 6 = omega (arith, c.as_chunks.ensures.front_len) in
     let same = ap (λ calls. get_or calls i []) c.as_chunks.ensures.front in
     let five : c.loop-n.n-index ≡ 5 = omega (arith, length-take 5 call, call_long answers i call less same) in
-    line_next answers i call less same (rw five at c.loop-n.invariant)
-    (omega (arith, lines_room answers i call c.loop-n.n-index c.loop-n.invariant)) field
+    line_next answers i call less same (rw five at c.loop-n.invariant) field

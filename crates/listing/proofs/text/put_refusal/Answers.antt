@@ -6,7 +6,7 @@ use Rattle.listing.proofs.text.put_refusal.Goals as goal
 
 pub returns-then-code-eq-FILE_RUN : goal.returns-then-code-eq-FILE_RUN
 returns-then-code-eq-FILE_RUN c =
-    rw (← refusal_none c.args.code (sym (to_z-of_z c.ranges.code) ∙ ap (to_z w64) c.if-code-eq-FILE_RUN.true)) (puts_none c.args.out.now)
+    rw (← refusal_none c.args.code (sym (to_z-of_z c.ranges.code) ∙ ap (to_z w64) c.if-code-eq-FILE_RUN.true)) (puts_none c.args.out.now c.args.at)
 
 pub returns : goal.returns
 returns c =
