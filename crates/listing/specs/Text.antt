@@ -23,7 +23,7 @@ decimal n = digits_of 20 n
 unfoldable pub signed : ℤ → List ℕ
 signed z = pick (lt_z z (pos 0)) (45 ∷ decimal (nat_abs z)) (decimal (nat_abs z))
 
--- the minus alone
+-- the minus in front of a negative number, else nothing
 unfoldable pub sign : ℤ → List ℕ
 sign (pos n) = []
 sign (negsuc n) = 45 ∷ []

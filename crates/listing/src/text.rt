@@ -1,11 +1,12 @@
-// Numbers and lines, put into a lent buffer. Each function takes the place where its text begins and gives the place behind it: as a struct that holds the
-// buffer and the place a line takes a quarter longer, and with a slice from the place on a call of the program 4 in 100.
+// Numbers and lines, put into a lent buffer. Each function takes the place where its text begins and gives the place behind it.
+// Tried, and slower: a struct of the buffer and the place (in Rust a line takes a quarter longer), and slices from the place on (3 in 100 more instructions
+// in the program).
 ghost use Rattle.std.specs.Prelude.{◌+◌, ◌*◌, ◌/◌, ◌<◌, ◌≤◌, length};
 ghost use Rattle.listing.specs.Text.{sign, decimal, field, lines_of, refusal_line, Puts};
 
 use rules::codes;
 
-// A number's decimal digits. By hand: a line takes half as long again with the crate `itoa`, and more than four times as long with `write!`.
+// A number's decimal digits. Tried in Rust, and slower: with the crate `itoa` a line takes half as long again, with `write!` over four times as long.
 fn put_digits(out: &mut [u8], at: usize, n: u64) -> usize
     requires { at + length (decimal n) ≤ length out.old }
     ensures { Puts out.old at (decimal n) out.new result }
