@@ -1,33 +1,53 @@
--- Whether a transaction has ended or expired, by the place of its owner.
+-- Whether a transaction has ended or expired, by its owner.
 -- Assumes nothing.
-use Prim.Native.Nat.{ℕ, ◌≤◌}
-use mathlib.Core.Path.{◌≡◌, ap, ap₂, sym, ◌∙◌}
-use mathlib.Core.Bool.{not, ◌&&◌}
+use Rattle.std.specs.Prelude.{Option, Some, None, IfSome, is_some}
+use Prim.Native.Nat.{ℕ, ◌≤◌, ◌<◌}
+use mathlib.Core.Path.{◌≡◌, ap, sym, subst, ◌∙◌}
+use mathlib.Core.Bool.{Bool, true, false, not, ◌&&◌}
 use mathlib.Core.List.{List}
 use native.Mathlib.Omega.{arith}
+use borrow.Author.Tests.{ltb-true, ltb-false}
 use lib.Dec.{eqb, ltb}
 use lib.ListN.{length, get_or-eq_default}
 use Rattle.rules.specs.Record.{fresh_party, owns, party}
-use Rattle.rules.specs.Transaction.{ended, late, expired}
+use Rattle.rules.specs.Transaction.{owner_of, ended, late, expired}
 use Rattle.rules.proofs.Logic.{test, pick_true, pick_false}
-use Rattle.monitor.specs.View.{view, live_owner}
-use Rattle.monitor.proofs.Lists.{any_first}
+use Rattle.monitor.specs.View.{view, place_among, live_owner, late_at}
 use Rattle.monitor.proofs.Laws.{parties_long}
+use Rattle.monitor.proofs.Search.{party_there}
 
-module _ (xs : List ℕ) (t : ℕ) {o : ℕ} (e : o ≡ live_owner (view xs).parties t) where
-  pub ended_by : ended (view xs) t ≡ not (eqb t 0) && not (ltb o 16)
+among : (n k : ℕ) → IfSome (place_among n k) (λ p. p < n)
+among n k = test (ltb k n)
+    (λ t. subst (λ (o : Option ℕ). IfSome o (λ p. p < n)) (sym (pick_true _ _ _ t)) (ltb-true k n t))
+    (λ t. subst (λ (o : Option ℕ). IfSome o (λ p. p < n)) (sym (pick_false _ _ _ t)) tt)
+
+asked-none : (b : Bool) {s : Bool} → s ≡ not b → not s ≡ b
+asked-none true e = ap not e
+asked-none false e = ap not e
+
+module _ (xs : List ℕ) (t : ℕ) {o : Option ℕ} (e : o ≡ live_owner (view xs).parties t) where
+  -- it is one of the parties
+  pub owner_among : IfSome o (λ p. p < 16)
+  owner_among = subst (λ (o : Option ℕ). IfSome o (λ p. p < 16)) (sym e) (test (eqb t 0)
+      (λ z. subst (λ (o : Option ℕ). IfSome o (λ p. p < 16)) (sym (pick_true _ _ _ z)) tt)
+      (λ n. subst (λ (o : Option ℕ). IfSome o (λ p. p < 16)) (sym (pick_false _ _ _ n)) (among 16 (owner_of (view xs).parties t))))
+
+  pub ended_by : (none : Bool) → is_some o ≡ not none → ended (view xs) t ≡ not (eqb t 0) && none
   unfolding ended
-  ended_by = test (eqb t 0)
+  ended_by none q = test (eqb t 0)
       (λ z. rw z)
-      (λ n. rw n (ap not (any_first (owns t) (view xs).parties ∙ ap₂ ltb (sym (e ∙ pick_false _ _ _ n)) (parties_long 16 0 xs))))
+      (λ n. rw n (ap not (sym (party_there xs (owns t) (e ∙ pick_false _ _ _ n))) ∙ asked-none none q))
 
-  pub expired_by : expired (view xs) t ≡ late (view xs).clock (party (view xs) o)
+  pub expired_by : expired (view xs) t ≡ late_at (view xs) o
   unfolding expired
   expired_by = test (eqb t 0)
-      (λ z. pick_true _ _ _ z ∙ sym (ap (λ (k : ℕ). late (view xs).clock (party (view xs) k)) (e ∙ pick_true _ _ _ z) ∙ none))
-      (λ n. pick_false _ _ _ n ∙ ap (λ (k : ℕ). late (view xs).clock (party (view xs) k)) (sym (e ∙ pick_false _ _ _ n)))
+      (λ z. pick_true _ _ _ z ∙ sym (ap (late_at (view xs)) (e ∙ pick_true _ _ _ z)))
+      (λ n. pick_false _ _ _ n ∙ by-place (owner_of (view xs).parties t) ∙ sym (ap (late_at (view xs)) (e ∙ pick_false _ _ _ n)))
     where
-      none : late (view xs).clock (party (view xs) 16) ≡ late (view xs).clock fresh_party
-      none = let l = parties_long 16 0 xs in
-          let h : length (view xs).parties ≤ 16 = omega arith in
-          ap (late (view xs).clock) (get_or-eq_default (view xs).parties fresh_party h)
+      by-place : (k : ℕ) → late (view xs).clock (party (view xs) k) ≡ late_at (view xs) (place_among 16 k)
+      by-place k = test (ltb k 16)
+          (λ l. sym (ap (late_at (view xs)) (pick_true _ _ _ l)))
+          (λ g. let n = parties_long 16 0 xs in
+          let p = ltb-false k 16 g in
+          let h : length (view xs).parties ≤ k = omega arith in
+          ap (late (view xs).clock) (get_or-eq_default (view xs).parties fresh_party h) ∙ sym (ap (late_at (view xs)) (pick_false _ _ _ g)))

@@ -12,7 +12,7 @@ use Rattle.rules.specs.Choice.{pick, same}
 use Rattle.rules.specs.Lists.{collect}
 use Rattle.rules.specs.Codes.{tp_accepted}
 use Rattle.rules.specs.Record.{fresh_link, blanks, party, live, with_links, replaced}
-use Rattle.rules.specs.Transaction.{owner_of}
+use Rattle.rules.specs.Transaction.{owner_of, late}
 use Rattle.monitor.specs.Words.{words, read_link, read_party}
 use Rattle.monitor.specs.declared.Told.{Told}
 
@@ -49,10 +49,6 @@ link_in m i = get_or m.links i fresh_link
 abbrev pub live_at : Monitor → ℕ → Link
 live_at m i = get_or (live m) i fresh_link
 
--- the owner of the transaction t if it is live, else 16: of no transaction too
-abbrev pub live_owner : List Party → ℕ → ℕ
-live_owner ps t = pick (eqb t 0) 16 (owner_of ps t)
-
 -- is this a link of the transaction t
 unfoldable pub of_tx : ℕ → Link → Bool
 of_tx t l = same l.tx t
@@ -68,6 +64,15 @@ first_place tested from to found =
 -- the place k where it is one of n, and none past them
 abbrev pub place_among : ℕ → ℕ → Option ℕ
 place_among n k = pick (ltb k n) (Some k) None
+
+-- the owner of the transaction t if it is live: none of no transaction
+abbrev pub live_owner : List Party → ℕ → Option ℕ
+live_owner ps t = pick (eqb t 0) None (place_among 16 (owner_of ps t))
+
+-- has the deadline of the party come, if there is one
+abbrev pub late_at : Monitor → Option ℕ → Bool
+late_at m None = false
+late_at m (Some p) = late m.clock (party m p)
 
 -- the code's test asks of each place what f asks of the link, or of the party, that stands there
 abbrev pub tests_link : (ℕ → Bool → Type 0) → (Link → Bool) → Monitor → Type 0

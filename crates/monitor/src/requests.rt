@@ -122,7 +122,7 @@ pub(crate) fn ask_link(s: &[u32; WORDS], p: usize, t: u32, a: u32) -> i64
         return codes::NOT_PERMITTED;
     }
     let o = live_owner(s, t);
-    let ended = !(t == 0) & !(o < Monitor::PARTIES);
+    let ended = !(t == 0) & o.is_none();
     if ended {
         return codes::NOT_ALLOWED_NOW;
     }

@@ -1,6 +1,6 @@
 -- `requests::ask_link` meets its contract.
-use Rattle.monitor.proofs.Usual.{ℕ, ◌≡◌, ap, sym, ◌∙◌, true, not, ◌&&◌, eqb, ltb, party, pick, in_set, may_request, ended, expired, ask_link, view}
-use Rattle.monitor.proofs.Owners.{ended_by, expired_by}
+use Rattle.monitor.proofs.Usual.{ℕ, ◌≡◌, ap, sym, ◌∙◌, true, not, ◌&&◌, eqb, party, pick, in_set, may_request, ended, expired, ask_link, view}
+use Rattle.monitor.proofs.Owners.{owner_among, ended_by, expired_by}
 use Rattle.monitor.proofs.requests.ask_link.Goals as goal
 
 pub returns-then-not-permitted : goal.returns-then-not-permitted
@@ -14,15 +14,18 @@ unfolding ask_link pick may_request
 returns-then-ended c =
     let permitted : let a = c.args in may_request a.a (party (view a.s.now) a.p) ≡ c.in_set-permitted.result = sym (c.in_set-permitted.ensures ∙ ap (λ (s : ℕ). in_set s c.args.a) c.mayrequest_at-set.ensures) in
     let may : let a = c.args in may_request a.a (party (view a.s.now) a.p) ≡ true = permitted ∙ c.if-not-permitted.false in
-    let ends : let a = c.args in ended (view a.s.now) a.t ≡ not (eqb a.t 0) && not (ltb c.live_owner-o.result 16) = let a = c.args in ended_by a.s.now a.t c.live_owner-o.ensures in
+    let ends : let a = c.args in ended (view a.s.now) a.t ≡ not (eqb a.t 0) && c.is_none.result = let a = c.args in ended_by a.s.now a.t c.live_owner-o.ensures _ c.is_none.ensures in
     rw (may, ends ∙ c.if-ended.true)
+
+pub is_late_at-late-requires : goal.is_late_at-late-requires
+is_late_at-late-requires c = owner_among c.args.s.now c.args.t c.live_owner-o.ensures
 
 pub returns-then-late : goal.returns-then-late
 unfolding ask_link pick may_request
 returns-then-late c =
     let permitted : let a = c.args in may_request a.a (party (view a.s.now) a.p) ≡ c.in_set-permitted.result = sym (c.in_set-permitted.ensures ∙ ap (λ (s : ℕ). in_set s c.args.a) c.mayrequest_at-set.ensures) in
     let may : let a = c.args in may_request a.a (party (view a.s.now) a.p) ≡ true = permitted ∙ c.if-not-permitted.false in
-    let ends : let a = c.args in ended (view a.s.now) a.t ≡ not (eqb a.t 0) && not (ltb c.live_owner-o.result 16) = let a = c.args in ended_by a.s.now a.t c.live_owner-o.ensures in
+    let ends : let a = c.args in ended (view a.s.now) a.t ≡ not (eqb a.t 0) && c.is_none.result = let a = c.args in ended_by a.s.now a.t c.live_owner-o.ensures _ c.is_none.ensures in
     let expires : let a = c.args in expired (view a.s.now) a.t ≡ c.is_late_at-late.result = let a = c.args in
     expired_by a.s.now a.t c.live_owner-o.ensures ∙ sym c.is_late_at-late.ensures in
     rw (may, ends ∙ c.if-ended.false, expires ∙ c.if-late.true)
@@ -32,7 +35,7 @@ unfolding ask_link pick may_request
 returns-then-not-some c =
     let permitted : let a = c.args in may_request a.a (party (view a.s.now) a.p) ≡ c.in_set-permitted.result = sym (c.in_set-permitted.ensures ∙ ap (λ (s : ℕ). in_set s c.args.a) c.mayrequest_at-set.ensures) in
     let may : let a = c.args in may_request a.a (party (view a.s.now) a.p) ≡ true = permitted ∙ c.if-not-permitted.false in
-    let ends : let a = c.args in ended (view a.s.now) a.t ≡ not (eqb a.t 0) && not (ltb c.live_owner-o.result 16) = let a = c.args in ended_by a.s.now a.t c.live_owner-o.ensures in
+    let ends : let a = c.args in ended (view a.s.now) a.t ≡ not (eqb a.t 0) && c.is_none.result = let a = c.args in ended_by a.s.now a.t c.live_owner-o.ensures _ c.is_none.ensures in
     let expires : let a = c.args in expired (view a.s.now) a.t ≡ c.is_late_at-late.result = let a = c.args in
     expired_by a.s.now a.t c.live_owner-o.ensures ∙ sym c.is_late_at-late.ensures in
     let timely = expires ∙ c.if-late.false in
@@ -43,7 +46,7 @@ unfolding ask_link pick may_request
 returns-then-not-left c =
     let permitted : let a = c.args in may_request a.a (party (view a.s.now) a.p) ≡ c.in_set-permitted.result = sym (c.in_set-permitted.ensures ∙ ap (λ (s : ℕ). in_set s c.args.a) c.mayrequest_at-set.ensures) in
     let may : let a = c.args in may_request a.a (party (view a.s.now) a.p) ≡ true = permitted ∙ c.if-not-permitted.false in
-    let ends : let a = c.args in ended (view a.s.now) a.t ≡ not (eqb a.t 0) && not (ltb c.live_owner-o.result 16) = let a = c.args in ended_by a.s.now a.t c.live_owner-o.ensures in
+    let ends : let a = c.args in ended (view a.s.now) a.t ≡ not (eqb a.t 0) && c.is_none.result = let a = c.args in ended_by a.s.now a.t c.live_owner-o.ensures _ c.is_none.ensures in
     let expires : let a = c.args in expired (view a.s.now) a.t ≡ c.is_late_at-late.result = let a = c.args in
     expired_by a.s.now a.t c.live_owner-o.ensures ∙ sym c.is_late_at-late.ensures in
     let timely = expires ∙ c.if-late.false in
@@ -55,7 +58,7 @@ unfolding ask_link pick may_request
 returns c =
     let permitted : let a = c.args in may_request a.a (party (view a.s.now) a.p) ≡ c.in_set-permitted.result = sym (c.in_set-permitted.ensures ∙ ap (λ (s : ℕ). in_set s c.args.a) c.mayrequest_at-set.ensures) in
     let may : let a = c.args in may_request a.a (party (view a.s.now) a.p) ≡ true = permitted ∙ c.if-not-permitted.false in
-    let ends : let a = c.args in ended (view a.s.now) a.t ≡ not (eqb a.t 0) && not (ltb c.live_owner-o.result 16) = let a = c.args in ended_by a.s.now a.t c.live_owner-o.ensures in
+    let ends : let a = c.args in ended (view a.s.now) a.t ≡ not (eqb a.t 0) && c.is_none.result = let a = c.args in ended_by a.s.now a.t c.live_owner-o.ensures _ c.is_none.ensures in
     let expires : let a = c.args in expired (view a.s.now) a.t ≡ c.is_late_at-late.result = let a = c.args in
     expired_by a.s.now a.t c.live_owner-o.ensures ∙ sym c.is_late_at-late.ensures in
     let timely = expires ∙ c.if-late.false in
