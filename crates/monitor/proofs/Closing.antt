@@ -1,11 +1,9 @@
 -- A party's own links close: what is left of each, and whose transactions become rollback-only.
 -- Assumes nothing.
-use Rattle.std.specs.Prelude.{Option, option_to_list}
 use Prim.Native.Nat.{ℕ, suc, ◌+◌, ◌≤◌, ◌<◌}
 use mathlib.Core.Path.{◌≡◌, refl, ap, sym, ◌∙◌}
 use mathlib.Core.Bool.{Bool, true, false, ◌&&◌}
 use mathlib.Core.List.{List, [], ◌∷◌}
-use native.Mathlib.Omega.{arith}
 use borrow.Author.Tests.{eq-eqb, ne_eqb}
 use lib.ListN.{length, drop}
 use Rattle.rules.specs.declared.Link.{Link}

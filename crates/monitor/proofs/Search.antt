@@ -3,7 +3,7 @@
 use Rattle.std.specs.Prelude.{Option, Some, None, is_some, unwrap_or}
 use Rattle.std.proofs.lemmas.Bool.{cases_lt}
 use Prim.Native.Nat.{ℕ, zero, suc, ◌+◌, ◌-◌, ◌≤◌, ◌<◌}
-use mathlib.Core.Path.{◌≡◌, refl, ap, sym, subst, ◌∙◌}
+use mathlib.Core.Path.{◌≡◌, ap, sym, subst, ◌∙◌}
 use mathlib.Core.List.{List, [], ◌∷◌}
 use mathlib.Core.Logic.{⊎_elim}
 use mathlib.Core.Bool.{Bool, true, false}
@@ -125,12 +125,6 @@ module _ (xs : List ℕ) (f : Link → Bool) (h : (view xs).count ≤ 32) {r : O
 
 -- of the parties
 module _ (xs : List ℕ) (f : Party → Bool) {r : Option ℕ} (e : r ≡ place_among 16 (first_of f (view xs).parties)) where
-  pub party_or_past : unwrap_or r 16 ≡ first_of f (view xs).parties
-  party_or_past =
-      let l = parties_long 16 0 xs in
-      let w = first_within f (view xs).parties in
-      or_past _ _ e (omega arith)
-
   pub party_there : is_some r ≡ any_of f (view xs).parties
   party_there = is_there _ _ e ∙ ap (ltb (first_of f (view xs).parties)) (sym (parties_long 16 0 xs)) ∙ sym (any_first f (view xs).parties)
 

@@ -61,4 +61,4 @@ pub use Rattle.rules.proofs.Logic.{pick_true, pick_false, same_eq, same_ne}
 pub use Rattle.monitor.proofs.Lists.{live_past, any_first}
 pub use Rattle.monitor.proofs.Laws.{links_long, parties_long, link_law, party_law, end_live, live_long, live_in}
 pub use Rattle.monitor.proofs.Laws.{end_party, live_of, changed_of, there, nowhere, replaced_of, count_kept, sound_room, read_live, read_first, read_ended}
-pub use Rattle.monitor.proofs.Search.{found_link, found_party, found_some, found_none, link_or_past, link_there, party_or_past, party_there}
+pub use Rattle.monitor.proofs.Search.{found_link, found_party, found_some, found_none, link_or_past, link_there, party_there}

@@ -1,5 +1,5 @@
 -- `replies::fetch_one` meets its contract.
-use Rattle.monitor.proofs.Usual.{ℕ, ◌<◌, ◌≡◌, ap, sym, ◌∙◌, Bool, not, arith, rules, eq-eqb, ne_eqb, Monitor, Link, Ruled, is_returned, ask, no_such_end, timed_out, no_reply_yet}
+use Rattle.monitor.proofs.Usual.{ℕ, ◌≡◌, ap, sym, ◌∙◌, Bool, not, arith, rules, eq-eqb, ne_eqb, Monitor, Link, Ruled, is_returned, ask, no_such_end, timed_out, no_reply_yet}
 use Rattle.monitor.proofs.Usual.{expired, fetched, fetch_one, view, pick_true, pick_false, sound_room, read_ended, found_some}
 use Rattle.monitor.proofs.Talking.{refused, no_request_end, on_request_end}
 use Rattle.monitor.proofs.replies.fetch_one.Goals as goal

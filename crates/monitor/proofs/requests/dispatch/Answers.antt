@@ -1,5 +1,5 @@
 -- `requests::dispatch` meets its contract.
-use Rattle.monitor.proofs.Usual.{ℕ, ◌<◌, ap, sym, ◌∙◌, arith, ltb, lt-ltb, le-ltb, dispatched, dispatch_of, view, live_at, pick_true, pick_false, live_in, found_some, found_none}
+use Rattle.monitor.proofs.Usual.{ℕ, ap, sym, ◌∙◌, arith, ltb, lt-ltb, le-ltb, dispatched, dispatch_of, view, live_at, pick_true, pick_false, live_in, found_some, found_none}
 use Rattle.monitor.proofs.Talking.{refused}
 use Rattle.monitor.proofs.requests.dispatch.Goals as goal
 

@@ -1,6 +1,5 @@
 -- `returns::mark_own` meets its contract.
-use Rattle.monitor.proofs.Usual.{sym, ◌∙◌, arith, own_end}
-use Rattle.monitor.proofs.Sweep.{first_inside}
+use Rattle.monitor.proofs.Usual.{sym, ◌∙◌, arith}
 use Rattle.monitor.proofs.Closing.{mark_start, marks, unmarked, all_marked}
 use Rattle.monitor.proofs.returns.mark_own.Goals as goal
 
