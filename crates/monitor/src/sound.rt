@@ -8,38 +8,37 @@ ghost use Rattle.monitor.specs.View.{view};
 use super::words::{Store, WORDS, count, last_link, last_tx, link_at, party_at, served_at};
 use rules::{Link, Monitor, Party, codes};
 
+// The tests here are `&` and `|`: soundness with `&&`, `||` and `all` took 1.4 times as long.
 pub(crate) fn link_good(l: Link) -> bool
     ensures { result ≡ link_good l }
 {
-    let listed = matches!(
-        l.outcome,
-        0 | codes::TPEV_SVCERR | codes::TPEV_SVCFAIL | codes::TPEV_SVCSUCC
-    );
-    let returned_with_none = l.state == 2 && l.outcome == 0;
-    l.kind <= 1
-        && l.originator <= 15
-        && l.attached <= 1
-        && l.state <= 2
-        && l.server <= 15
-        && listed
-        && l.sender <= 1
-        && l.granting <= 1
-        && l.disconnected <= 2
-        && l.filled <= Link::UNREAD
-        && !returned_with_none
+    (l.kind <= 1)
+        & (l.originator <= 15)
+        & (l.attached <= 1)
+        & (l.state <= 2)
+        & (l.server <= 15)
+        & ((l.outcome == 0)
+            | (l.outcome == codes::TPEV_SVCERR)
+            | (l.outcome == codes::TPEV_SVCFAIL)
+            | (l.outcome == codes::TPEV_SVCSUCC))
+        & (l.sender <= 1)
+        & (l.granting <= 1)
+        & (l.disconnected <= 2)
+        & (l.filled <= Link::UNREAD)
+        & !((l.state == 2) & (l.outcome == 0))
 }
 
 // None is above 14.
 pub(crate) fn reports_good(r: [u32; 4]) -> bool
     ensures { result ≡ reports_good r }
 {
-    r.iter().all(|&x| x <= 14)
+    (r[0] <= 14) & (r[1] <= 14) & (r[2] <= 14) & (r[3] <= 14)
 }
 
 pub(crate) fn choices_good(q: Party) -> bool
     ensures { result ≡ choices_good q }
 {
-    q.opened <= 1 && q.control <= 1 && q.rollbackonly <= 1 && reports_good(q.reports)
+    (q.opened <= 1) & (q.control <= 1) & (q.rollbackonly <= 1) & reports_good(q.reports)
 }
 
 // Are the links good? Then found has for each party the number that it serves, where such a link works for it, and else 0.
@@ -50,11 +49,13 @@ pub(crate) fn links_found(s: &[u32; WORDS], found: &mut [u32; 16]) -> bool
     let mut prev = 0;
     for i in 0..count(s) {
         let l = link_at(s, i);
-        if l.number <= prev || !link_good(l) {
+        let ok = (prev < l.number) & link_good(l);
+        if !ok {
             return false;
         }
         let p = l.server as usize;
-        if l.state == 1 && l.number == served_at(s, p) {
+        let works = (l.state == 1) & (l.number == served_at(s, p));
+        if works {
             found[p] = l.number;
         }
         prev = l.number;
@@ -69,7 +70,8 @@ pub(crate) fn parties_found(s: &[u32; WORDS], found: &[u32; 16]) -> bool
 {
     for p in 0..Monitor::PARTIES {
         let q = party_at(s, p);
-        if !choices_good(q) || q.served != found[p] {
+        let ok = choices_good(q) & (q.served == found[p]);
+        if !ok {
             return false;
         }
     }
