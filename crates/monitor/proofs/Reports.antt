@@ -22,7 +22,7 @@ use Rattle.rules.proofs.Votes.{any_four}
 pub reports_long : (q : Party) (vs : List Val) → Is (row the_type) q vs → length q.reports ≡ 4
 reports_long q vs p = p.1.1.1.1.1.1.1.1.1.1.0.1.0.1
 
-pub or_assoc : (a b c : Bool) → (a || b) || c ≡ a || (b || c)
+or_assoc : (a b c : Bool) → (a || b) || c ≡ a || (b || c)
 or_assoc true b c = refl
 or_assoc false b c = refl
 
