@@ -44,7 +44,6 @@ module _ (p : ℕ) (l : Link) (own : own_end p l ≡ true) where
 
 -- ---- the loop that marks, of the numbers ws at first and xs now: from the place i on the links mark what all of them would have at first
 pub record Marks (p : ℕ) (ws xs : List ℕ) (i : ℕ) : Type 0 where
-  pub long : length xs ≡ words
   pub room : (view ws).count ≤ 32
   pub other : view xs ≡ with_parties (view ws) (view xs).parties
   pub marked : rollback_only_by p (drop i (live (view ws))) (view xs).parties ≡ rollback_only_by p (live (view ws)) (view ws).parties
@@ -62,10 +61,9 @@ none_marked p (x ∷ l) ps = test (own_end p x)
     ∙ none_marked p l ps
     ∙ ap (rollback_only_by p l) (sym (pick_false _ _ _ (not_own p x e))))
 
-pub mark_start : (p : ℕ) (ws : List ℕ) {from : ℕ} → length ws ≡ words → (view ws).count ≤ 32 → from ≡ first_of (own_end p) (live (view ws)) → Marks p ws ws from
-mark_start p ws n r e =
+pub mark_start : (p : ℕ) (ws : List ℕ) {from : ℕ} → (view ws).count ≤ 32 → from ≡ first_of (own_end p) (live (view ws)) → Marks p ws ws from
+mark_start p ws r e =
     record {
-      long = n;
       room = r;
       other = refl;
       marked = ap (λ (k : ℕ). rollback_only_by p (drop k (live (view ws))) (view ws).parties) e ∙ none_marked p (live (view ws)) (view ws).parties;
@@ -83,19 +81,17 @@ module _ {p : ℕ} {ws xs : List ℕ} {i : ℕ} (g : Marks p ws xs i) where
     pub unmarked : originator_end p l ≡ false → Marks p ws xs (i + 1)
     unmarked o =
         record {
-          long = g.long;
           room = g.room;
           other = g.other;
           marked = ap (rollback_only_by p (drop (i + 1) (live (view ws)))) (sym (pick_false _ _ _ o)) ∙ sym (next (view xs).parties) ∙ g.marked;
         }
 
-    pub marks : originator_end p l ≡ true → (ys : List ℕ) → (view ys ≡ rollback_only_tx (view xs) l.tx) × (length ys ≡ words) → Marks p ws ys (i + 1)
+    pub marks : originator_end p l ≡ true → (ys : List ℕ) → view ys ≡ rollback_only_tx (view xs) l.tx → Marks p ws ys (i + 1)
     marks o ys e =
-        let q : (view ys).parties ≡ rollback_only_in l.tx (view xs).parties = ap (λ (m : Monitor). m.parties) e.0 in
+        let q : (view ys).parties ≡ rollback_only_in l.tx (view xs).parties = ap (λ (m : Monitor). m.parties) e in
         record {
-          long = e.1;
           room = g.room;
-          other = e.0 ∙ ap (λ (m : Monitor). rollback_only_tx (with_parties m (view xs).parties) l.tx) g.other ∙ ap (with_parties (view ws)) (sym q);
+          other = e ∙ ap (λ (m : Monitor). rollback_only_tx (with_parties m (view xs).parties) l.tx) g.other ∙ ap (with_parties (view ws)) (sym q);
           marked = ap (rollback_only_by p (drop (i + 1) (live (view ws)))) (q ∙ sym (pick_true _ _ _ o)) ∙ sym (next (view xs).parties) ∙ g.marked;
         }
 

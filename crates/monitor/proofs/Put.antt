@@ -224,8 +224,8 @@ module _ (xs : List ℕ) (i : ℕ) (l : Link) (n : length xs ≡ words) (h : i <
       let ls = links_put ys xs l 32 0 i h front (ap (link_at ys) (sym e) ∙ link_there) back in
       λ z. head_from (hs z) (ps z) (ls z)
 
-  pub put_link_law : (r : List ℕ) → r ≡ stored xs (link_base i) (link_words l) → (view r ≡ replaced (view xs) i l) × (length r ≡ words)
-  put_link_law r e = (ap view e ∙ link_stored, ap length e ∙ stored_long (link_words l) xs (link_base i) ∙ n)
+  pub put_link_law : (r : List ℕ) → r ≡ stored xs (link_base i) (link_words l) → view r ≡ replaced (view xs) i l
+  put_link_law r e = ap view e ∙ link_stored
 
 -- ---- a party
 halves : (x : ℕ) → low x + high x * 4294967296 ≡ x
@@ -256,8 +256,8 @@ module _ (xs : List ℕ) (p : ℕ) (q : Party) (n : length xs ≡ words) (h : p 
       let ls = links_alike zs xs 32 0 (λ k a b. past ws xs (party_base p) words k (omega arith) (omega arith)) in
       λ z. head_from (hs z) (ps z) (ls z)
 
-  pub put_party_law : (r : List ℕ) → r ≡ stored xs (party_base p) (party_words q) → (view r ≡ with_party (view xs) p q) × (length r ≡ words)
-  put_party_law r e = (ap view e ∙ party_stored, ap length e ∙ stored_long ws xs (party_base p) ∙ n)
+  pub put_party_law : (r : List ℕ) → r ≡ stored xs (party_base p) (party_words q) → view r ≡ with_party (view xs) p q
+  put_party_law r e = ap view e ∙ party_stored
 
 -- ---- a number of the head
 -- a number stored at a place of a run

@@ -71,7 +71,6 @@ keep_first_law xs ys zs n h a b =
 
 -- ---- the loop that moves, of the numbers ws at first and xs now, at the place i, with j links moved so far
 pub record Sweeps (f : Link → List Link) (ws xs : List ℕ) (i j : ℕ) : Type 0 where
-  pub long : length xs ≡ words
   pub room : (view ws).count ≤ 32
   pub inside : i ≤ (view ws).count
   pub behind : j ≤ i
@@ -82,11 +81,11 @@ pub record Sweeps (f : Link → List Link) (ws xs : List ℕ) (i j : ℕ) : Type
   pub other : view xs ≡ with_links (view ws) (view xs).links
 
 -- it starts at a place before which f leaves each as it is
-pub sweep_start : (ws : List ℕ) (i : ℕ) → length ws ≡ words → (view ws).count ≤ 32 → i ≤ (view ws).count
+pub sweep_start : (ws : List ℕ) (i : ℕ) → (view ws).count ≤ 32 → i ≤ (view ws).count
     → (f : Link → List Link) → keeps_before f (view ws) i → Sweeps f ws ws i i
-sweep_start ws i n r h f e =
+sweep_start ws i r h f e =
     let t : take i (live (view ws)) ≡ take i (view ws).links = take-take i (view ws).count (view ws).links h in
-    record { long = n; room = r; inside = h; behind = omega arith; front = sym (ap (collect f) (sym t) ∙ e ∙ t); rest = refl; other = refl }
+    record { room = r; inside = h; behind = omega arith; front = sym (ap (collect f) (sym t) ∙ e ∙ t); rest = refl; other = refl }
 
 module _ {f : Link → List Link} {ws xs : List ℕ} {i j : ℕ} (g : Sweeps f ws xs i j) where
   -- the link at the place i, of which o is left
@@ -116,23 +115,22 @@ module _ {f : Link → List Link} {ws xs : List ℕ} {i j : ℕ} (g : Sweeps f w
     pub sweep_drop : {o : Option Link} → option_to_list o ≡ f l → o ≡ None → Sweeps f ws xs (i + 1) j
     sweep_drop q z =
         let e = more _ q ∙ ap (λ (x : Option Link). take j (view xs).links ++ option_to_list x) z ∙ append-nil (take j (view xs).links) in
-        record { long = g.long; room = g.room; inside = omega arith; behind = omega arith; front = sym e; rest = rest_more; other = g.other }
+        record { room = g.room; inside = omega arith; behind = omega arith; front = sym e; rest = rest_more; other = g.other }
 
     -- x, which is put at the place j
-    pub sweep_put : {o : Option Link} {x : Link} → option_to_list o ≡ f l → o ≡ Some x → (ys : List ℕ) → (view ys ≡ replaced (view xs) j x) × (length ys ≡ words) → Sweeps f ws ys (i + 1) (j + 1)
+    pub sweep_put : {o : Option Link} {x : Link} → option_to_list o ≡ f l → o ≡ Some x → (ys : List ℕ) → view ys ≡ replaced (view xs) j x → Sweeps f ws ys (i + 1) (j + 1)
     sweep_put {x = x} q z ys p =
         let ls : List Link = (view xs).links in
-        let o : (view ys).links ≡ set ls j x = ap (λ (m : Monitor). m.links) p.0 in
+        let o : (view ys).links ≡ set ls j x = ap (λ (m : Monitor). m.links) p in
         let e = links_long 32 0 xs in
         let t : take (j + 1) (set ls j x) ≡ take j ls ++ (x ∷ []) = ap (λ (m : ℕ). take m (set ls j x)) (add-one j) ∙ take-suc-set ls j x (omega arith) in
         record {
-          long = p.1;
           room = g.room;
           inside = omega arith;
           behind = omega arith;
           front = ap (take (j + 1)) o ∙ t ∙ sym (more _ q ∙ ap (λ (y : Option Link). take j ls ++ option_to_list y) z);
           rest = ap (drop (i + 1)) o ∙ drop-set-lt (i + 1) ls j x (omega arith) ∙ rest_more;
-          other = p.0 ∙ ap (λ (m : Monitor). with_links m (set ls j x)) g.other ∙ ap (with_links (view ws)) (sym o);
+          other = p ∙ ap (λ (m : Monitor). with_links m (set ls j x)) g.other ∙ ap (with_links (view ws)) (sym o);
         }
 
   -- the end: the first j links are kept

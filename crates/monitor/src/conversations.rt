@@ -77,11 +77,11 @@ pub(crate) fn notify(l: Link) -> Link
 
 // The server is notified that the link a, which stands at the place i, was disconnected.
 pub(crate) fn tell_disconnect(s: &mut [u32; WORDS], i: usize, a: u32, l: Link) -> Told
-    requires { ((view s.old).count ≤ 32) × (length s.old ≡ words) × (i ≡ place_of (view s.old) a) × (i < (view s.old).count) }
-    ensures { (ruled_by result (view s.new) ≡ tells_disconnect (view s.old) a l) × (length s.new ≡ words) }
+    requires { ((view s.old).count ≤ 32) × (i ≡ place_of (view s.old) a) × (i < (view s.old).count) }
+    ensures { ruled_by result (view s.new) ≡ tells_disconnect (view s.old) a l }
 {
     let k = notify(l);
-    put_link(&mut *s, i, k);
+    put_link(s, i, k);
     Told {
         code: codes::TPEEVENT,
         value: 0,
@@ -93,10 +93,10 @@ pub(crate) fn tell_disconnect(s: &mut [u32; WORDS], i: usize, a: u32, l: Link) -
 
 // The originator learns how the service returned, and the link a, which stands at the place i, goes.
 pub(crate) fn tell_return(s: &mut [u32; WORDS], i: usize, a: u32, l: Link) -> Told
-    requires { ((view s.old).count ≤ 32) × (length s.old ≡ words) × (i ≡ place_of (view s.old) a) }
-    ensures { (ruled_by result (view s.new) ≡ tells_return (view s.old) a l) × (length s.new ≡ words) }
+    requires { ((view s.old).count ≤ 32) × (i ≡ place_of (view s.old) a) }
+    ensures { ruled_by result (view s.new) ≡ tells_return (view s.old) a l }
 {
-    remove_at(&mut *s, i, a);
+    remove_at(s, i, a);
     Told {
         code: codes::TPEEVENT,
         value: 0,
@@ -129,8 +129,8 @@ pub(crate) fn send_on(
     c: u32,
     l: Link,
 ) -> Told
-    requires { ((view s.old).count ≤ 32) × (length s.old ≡ words) × (i ≡ place_of (view s.old) a) × (i < (view s.old).count) }
-    ensures { (ruled_by result (view s.new) ≡ send_on (view s.old) p a b c l) × (length s.new ≡ words) }
+    requires { ((view s.old).count ≤ 32) × (i ≡ place_of (view s.old) a) × (i < (view s.old).count) }
+    ensures { ruled_by result (view s.new) ≡ send_on (view s.old) p a b c l }
 {
     let known = is_any_end(p, l);
     if !known {
@@ -139,18 +139,18 @@ pub(crate) fn send_on(
     if b > 1 {
         return coded(codes::BAD_ARGUMENT);
     }
-    let late = is_expired(&*s, l.tx);
+    let late = is_expired(s, l.tx);
     if late {
         return coded(codes::TIMED_OUT);
     }
     let disconnected = hears_disconnect(p, l);
     if disconnected {
-        return tell_disconnect(&mut *s, i, a, l);
+        return tell_disconnect(s, i, a, l);
     }
     let over = hears_return(p, l);
     let failed = over & !(l.outcome == codes::TPEV_SVCSUCC);
     if failed {
-        return tell_return(&mut *s, i, a, l);
+        return tell_return(s, i, a, l);
     }
     let sender = is_sender(p, l);
     let free = sender & (l.granting == 0);
@@ -161,20 +161,20 @@ pub(crate) fn send_on(
         return coded(codes::UNREAD_FULL);
     }
     let k = with_sent(l, b, c);
-    put_link(&mut *s, i, k);
+    put_link(s, i, k);
     accept(0)
 }
 
 // Kind 17.
 pub(crate) fn tpsend(s: &mut [u32; WORDS], p: usize, a: u32, b: u32, c: u32) -> Told
-    requires { ((view s.old).count ≤ 32) × (length s.old ≡ words) }
-    ensures { (ruled_by result (view s.new) ≡ send_of (view s.old) p a b c) × (length s.new ≡ words) }
+    requires { (view s.old).count ≤ 32 }
+    ensures { ruled_by result (view s.new) ≡ send_of (view s.old) p a b c }
 {
-    let Some(i) = find_link(&*s, a) else {
+    let Some(i) = find_link(s, a) else {
         return coded(codes::NO_SUCH_END);
     };
-    let l = link_at(&*s, i);
-    send_on(&mut *s, p, i, a, b, c, l)
+    let l = link_at(s, i);
+    send_on(s, p, i, a, b, c, l)
 }
 
 // Does the oldest token carry the grant?
@@ -200,8 +200,8 @@ pub(crate) fn without_oldest(l: Link, sender: u32, granting: u32) -> Link
 
 // The oldest token of the link a, which stands at the place i, comes.
 pub(crate) fn receive(s: &mut [u32; WORDS], p: usize, i: usize, a: u32, l: Link) -> Told
-    requires { ((view s.old).count ≤ 32) × (length s.old ≡ words) × (i ≡ place_of (view s.old) a) × (i < (view s.old).count) × (0 < l.filled) }
-    ensures { (ruled_by result (view s.new) ≡ received (view s.old) p a l) × (length s.new ≡ words) }
+    requires { ((view s.old).count ≤ 32) × (i ≡ place_of (view s.old) a) × (i < (view s.old).count) × (0 < l.filled) }
+    ensures { ruled_by result (view s.new) ≡ received (view s.old) p a l }
 {
     let u = l.unread;
     let token = u[0];
@@ -209,7 +209,7 @@ pub(crate) fn receive(s: &mut [u32; WORDS], p: usize, i: usize, a: u32, l: Link)
     if grant {
         let side = end_side(p, l);
         let k = without_oldest(l, side, 0);
-        put_link(&mut *s, i, k);
+        put_link(s, i, k);
         return Told {
             code: codes::TPEEVENT,
             value: 0,
@@ -219,7 +219,7 @@ pub(crate) fn receive(s: &mut [u32; WORDS], p: usize, i: usize, a: u32, l: Link)
         };
     }
     let k = without_oldest(l, l.sender, l.granting);
-    put_link(&mut *s, i, k);
+    put_link(s, i, k);
     Told {
         code: codes::TP_ACCEPTED,
         value: 0,
@@ -231,24 +231,24 @@ pub(crate) fn receive(s: &mut [u32; WORDS], p: usize, i: usize, a: u32, l: Link)
 
 // Kind 18, on the link l with the number a, which stands at the place i.
 pub(crate) fn receive_on(s: &mut [u32; WORDS], p: usize, i: usize, a: u32, l: Link) -> Told
-    requires { ((view s.old).count ≤ 32) × (length s.old ≡ words) × (i ≡ place_of (view s.old) a) × (i < (view s.old).count) }
-    ensures { (ruled_by result (view s.new) ≡ receive_on (view s.old) p a l) × (length s.new ≡ words) }
+    requires { ((view s.old).count ≤ 32) × (i ≡ place_of (view s.old) a) × (i < (view s.old).count) }
+    ensures { ruled_by result (view s.new) ≡ receive_on (view s.old) p a l }
 {
     let known = is_any_end(p, l);
     if !known {
         return coded(codes::NO_SUCH_END);
     }
-    let late = is_expired(&*s, l.tx);
+    let late = is_expired(s, l.tx);
     if late {
         return coded(codes::TIMED_OUT);
     }
     let disconnected = hears_disconnect(p, l);
     if disconnected {
-        return tell_disconnect(&mut *s, i, a, l);
+        return tell_disconnect(s, i, a, l);
     }
     let over = hears_return(p, l);
     if over {
-        return tell_return(&mut *s, i, a, l);
+        return tell_return(s, i, a, l);
     }
     let sender = is_sender(p, l);
     if sender {
@@ -257,48 +257,48 @@ pub(crate) fn receive_on(s: &mut [u32; WORDS], p: usize, i: usize, a: u32, l: Li
     if l.filled == 0 {
         return coded(codes::NOTHING_UNREAD);
     }
-    receive(&mut *s, p, i, a, l)
+    receive(s, p, i, a, l)
 }
 
 // Kind 18.
 pub(crate) fn tprecv(s: &mut [u32; WORDS], p: usize, a: u32) -> Told
-    requires { ((view s.old).count ≤ 32) × (length s.old ≡ words) }
-    ensures { (ruled_by result (view s.new) ≡ receive_of (view s.old) p a) × (length s.new ≡ words) }
+    requires { (view s.old).count ≤ 32 }
+    ensures { ruled_by result (view s.new) ≡ receive_of (view s.old) p a }
 {
-    let Some(i) = find_link(&*s, a) else {
+    let Some(i) = find_link(s, a) else {
         return coded(codes::NO_SUCH_END);
     };
-    let l = link_at(&*s, i);
-    receive_on(&mut *s, p, i, a, l)
+    let l = link_at(s, i);
+    receive_on(s, p, i, a, l)
 }
 
 // The conversation a, which stands at the place i, is disconnected if working, and else goes.
 pub(crate) fn disconnect_at(s: &mut [u32; WORDS], i: usize, a: u32, l: Link)
-    requires { ((view s.old).count ≤ 32) × (length s.old ≡ words) × (i ≡ place_of (view s.old) a) × (i < (view s.old).count) }
-    ensures { (view s.new ≡ disconnected_at (view s.old) a l) × (length s.new ≡ words) }
+    requires { ((view s.old).count ≤ 32) × (i ≡ place_of (view s.old) a) × (i < (view s.old).count) }
+    ensures { view s.new ≡ disconnected_at (view s.old) a l }
 {
     if l.state == 1 {
         let k = disconnect_link(l);
-        put_link(&mut *s, i, k);
+        put_link(s, i, k);
         return;
     }
-    remove_at(&mut *s, i, a);
+    remove_at(s, i, a);
 }
 
 // Kind 19.
 pub(crate) fn tpdiscon(s: &mut [u32; WORDS], p: usize, a: u32) -> Told
-    requires { ((view s.old).count ≤ 32) × (length s.old ≡ words) }
-    ensures { (ruled_by result (view s.new) ≡ disconnect_of (view s.old) p a) × (length s.new ≡ words) }
+    requires { (view s.old).count ≤ 32 }
+    ensures { ruled_by result (view s.new) ≡ disconnect_of (view s.old) p a }
 {
-    let Some(i) = find_link(&*s, a) else {
+    let Some(i) = find_link(s, a) else {
         return coded(codes::NO_SUCH_END);
     };
-    let l = link_at(&*s, i);
+    let l = link_at(s, i);
     let own = is_originator_end(p, l);
     if !own {
         return coded(codes::NO_SUCH_END);
     }
-    set_rollback_only(&mut *s, l.tx);
-    disconnect_at(&mut *s, i, a, l);
+    set_rollback_only(s, l.tx);
+    disconnect_at(s, i, a, l);
     accept(0)
 }

@@ -59,9 +59,8 @@ pub struct FileRan {
 
 // The calls of a piece of a file on a sound record, as many as there are answer places for; `last` says that the file ends with the piece.
 fn run_calls(s: &mut [u32; WORDS], input: &[u8], last: bool, answers: &mut [i64]) -> Passed
-    requires { (sound (view s.old) ≡ true) × (length s.old ≡ words) }
-    ensures { (passed (view s.new) result.code result.calls result.used answers.new
-        ≡ piece_run (view s.old) input.now last answers.old) × (length s.new ≡ words) }
+    requires { sound (view s.old) ≡ true }
+    ensures { passed (view s.new) result.code result.calls result.used answers.new ≡ piece_run (view s.old) input.now last answers.old }
 {
     let most = answers.len() / 6;
     let mut at = 0;
@@ -97,9 +96,7 @@ pub(crate) fn piece_on(
     last: bool,
     answers: &mut [i64],
 ) -> Passed
-    requires { length s.old ≡ words }
-    ensures { (passed (view s.new) result.code result.calls result.used answers.new
-        ≡ piece_of (view s.old) input.now last answers.old) × (length s.new ≡ words) }
+    ensures { passed (view s.new) result.code result.calls result.used answers.new ≡ piece_of (view s.old) input.now last answers.old }
 {
     if !is_sound_in(s) {
         return Passed {
@@ -145,9 +142,7 @@ fn count_calls(input: &[u8]) -> usize
 
 // A whole file, on whatever record is lent.
 pub(crate) fn file_on(s: &mut [u32; WORDS], input: &[u8], answers: &mut [i64]) -> Passed
-    requires { length s.old ≡ words }
-    ensures { (passed (view s.new) result.code result.calls result.used answers.new
-        ≡ file_of (view s.old) input.now answers.old) × (length s.new ≡ words) }
+    ensures { passed (view s.new) result.code result.calls result.used answers.new ≡ file_of (view s.old) input.now answers.old }
 {
     let whole = count_calls(input);
     if answers.len() / 6 < whole {

@@ -36,10 +36,10 @@ pub(crate) fn outcome_code(o: u32) -> i64
 
 // The reply of link a, which stands at the place i, is taken, and the link goes; the value is v.
 pub(crate) fn fetch(s: &mut [u32; WORDS], i: usize, a: u32, l: Link, v: u32) -> Told
-    requires { ((view s.old).count ≤ 32) × (length s.old ≡ words) × (i ≡ place_of (view s.old) a) × (is_ending l.outcome ≡ true) }
-    ensures { (ruled_by result (view s.new) ≡ fetched (view s.old) a l v) × (length s.new ≡ words) }
+    requires { ((view s.old).count ≤ 32) × (i ≡ place_of (view s.old) a) × (is_ending l.outcome ≡ true) }
+    ensures { ruled_by result (view s.new) ≡ fetched (view s.old) a l v }
 {
-    remove_at(&mut *s, i, a);
+    remove_at(s, i, a);
     let code = outcome_code(l.outcome);
     Told {
         code,
@@ -52,25 +52,25 @@ pub(crate) fn fetch(s: &mut [u32; WORDS], i: usize, a: u32, l: Link, v: u32) -> 
 
 // The reply of link a.
 pub(crate) fn fetch_one(s: &mut [u32; WORDS], p: usize, a: u32) -> Told
-    requires { (sound (view s.old) ≡ true) × (length s.old ≡ words) }
-    ensures { (ruled_by result (view s.new) ≡ fetch_one (view s.old) p a) × (length s.new ≡ words) }
+    requires { sound (view s.old) ≡ true }
+    ensures { ruled_by result (view s.new) ≡ fetch_one (view s.old) p a }
 {
-    let Some(i) = find_link(&*s, a) else {
+    let Some(i) = find_link(s, a) else {
         return coded(codes::NO_SUCH_END);
     };
-    let l = link_at(&*s, i);
+    let l = link_at(s, i);
     let own = is_request_end(p, l);
     if !own {
         return coded(codes::NO_SUCH_END);
     }
-    let late = is_expired(&*s, l.tx);
+    let late = is_expired(s, l.tx);
     if late {
         return coded(codes::TIMED_OUT);
     }
     if l.state != 2 {
         return coded(codes::NO_REPLY_YET);
     }
-    fetch(&mut *s, i, a, l, 0)
+    fetch(s, i, a, l, 0)
 }
 
 // Is the link at the place i one?
@@ -133,59 +133,59 @@ pub(crate) fn next_reply(s: &[u32; WORDS], p: usize, from: usize) -> Option<usiz
 
 // Whichever reply is there.
 pub(crate) fn fetch_any(s: &mut [u32; WORDS], p: usize) -> Told
-    requires { (sound (view s.old) ≡ true) × (length s.old ≡ words) }
-    ensures { (ruled_by result (view s.new) ≡ fetch_any (view s.old) p) × (length s.new ≡ words) }
+    requires { sound (view s.old) ≡ true }
+    ensures { ruled_by result (view s.new) ≡ fetch_any (view s.old) p }
 {
-    let Some(from) = first_request_end(&*s, p) else {
+    let Some(from) = first_request_end(s, p) else {
         return coded(codes::NO_SUCH_END);
     };
-    let late = has_expired_end(&*s, p, from);
+    let late = has_expired_end(s, p, from);
     if late {
         return coded(codes::TIMED_OUT);
     }
-    let Some(next) = next_reply(&*s, p, from) else {
+    let Some(next) = next_reply(s, p, from) else {
         return coded(codes::NO_REPLY_YET);
     };
-    let l = link_at(&*s, next);
-    fetch(&mut *s, next, l.number, l, l.number)
+    let l = link_at(s, next);
+    fetch(s, next, l.number, l, l.number)
 }
 
 // Kind 15.
 pub(crate) fn tpgetrply(s: &mut [u32; WORDS], p: usize, a: u32, b: u32) -> Told
-    requires { (sound (view s.old) ≡ true) × (length s.old ≡ words) }
-    ensures { (ruled_by result (view s.new) ≡ fetch_of (view s.old) p a b) × (length s.new ≡ words) }
+    requires { sound (view s.old) ≡ true }
+    ensures { ruled_by result (view s.new) ≡ fetch_of (view s.old) p a b }
 {
     if b > 1 {
         return coded(codes::BAD_ARGUMENT);
     }
     if b == codes::TPGETANY {
-        return fetch_any(&mut *s, p);
+        return fetch_any(s, p);
     }
-    fetch_one(&mut *s, p, a)
+    fetch_one(s, p, a)
 }
 
 // The end of link a, which stands at the place i, closes.
 pub(crate) fn cancel(s: &mut [u32; WORDS], i: usize, a: u32, l: Link)
-    requires { ((view s.old).count ≤ 32) × (length s.old ≡ words) × (i ≡ place_of (view s.old) a) × (i < (view s.old).count) }
-    ensures { (view s.new ≡ cancelled (view s.old) a l) × (length s.new ≡ words) }
+    requires { ((view s.old).count ≤ 32) × (i ≡ place_of (view s.old) a) × (i < (view s.old).count) }
+    ensures { view s.new ≡ cancelled (view s.old) a l }
 {
     if l.state == 2 {
-        remove_at(&mut *s, i, a);
+        remove_at(s, i, a);
         return;
     }
     let k = close_end(l);
-    put_link(&mut *s, i, k);
+    put_link(s, i, k);
 }
 
 // Kind 16.
 pub(crate) fn tpcancel(s: &mut [u32; WORDS], p: usize, a: u32) -> Told
-    requires { ((view s.old).count ≤ 32) × (length s.old ≡ words) }
-    ensures { (ruled_by result (view s.new) ≡ cancel_of (view s.old) p a) × (length s.new ≡ words) }
+    requires { (view s.old).count ≤ 32 }
+    ensures { ruled_by result (view s.new) ≡ cancel_of (view s.old) p a }
 {
-    let Some(i) = find_link(&*s, a) else {
+    let Some(i) = find_link(s, a) else {
         return coded(codes::NO_SUCH_END);
     };
-    let l = link_at(&*s, i);
+    let l = link_at(s, i);
     let own = is_request_end(p, l);
     if !own {
         return coded(codes::NO_SUCH_END);
@@ -193,6 +193,6 @@ pub(crate) fn tpcancel(s: &mut [u32; WORDS], p: usize, a: u32) -> Told
     if l.tx != 0 {
         return coded(codes::IN_TRANSACTION);
     }
-    cancel(&mut *s, i, a, l);
+    cancel(s, i, a, l);
     accept(0)
 }

@@ -152,35 +152,34 @@ pub(crate) fn open_link(
     c: u32,
     sender: u32,
 ) -> u32
-    requires { (p < 16) × ((view s.old).count < 32) × ((view s.old).lastlink < 60000) × (length s.old ≡ words) }
-    ensures { (result ≡ (view s.old).lastlink + 1)
-        × (view s.new ≡ added (view s.old) (new_link ((view s.old).lastlink + 1) kind p attached a t c sender)) × (length s.new ≡ words) }
+    requires { (p < 16) × ((view s.old).count < 32) × ((view s.old).lastlink < 60000) }
+    ensures { (result ≡ (view s.old).lastlink + 1) × (view s.new ≡ added (view s.old) (new_link ((view s.old).lastlink + 1) kind p attached a t c sender)) }
 {
-    let last = last_link(&*s);
+    let last = last_link(s);
     let d = last + 1;
     let l = new_link(d, kind, p, attached, a, t, c, sender);
-    add_link(&mut *s, l);
+    add_link(s, l);
     d
 }
 
 // Kind 12.
 pub(crate) fn tpacall(s: &mut [u32; WORDS], p: usize, a: u32, b: u32, c: u32) -> Told
-    requires { (p < 16) × ((view s.old).count ≤ 32) × (length s.old ≡ words) }
-    ensures { (ruled_by result (view s.new) ≡ request_of (view s.old) p a b c) × (length s.new ≡ words) }
+    requires { (p < 16) × ((view s.old).count ≤ 32) }
+    ensures { ruled_by result (view s.new) ≡ request_of (view s.old) p a b c }
 {
-    let own = tx_of(&*s, p);
+    let own = tx_of(s, p);
     let service = is_service(a);
     let good = service & ((b <= 3) & !((b == codes::TPNOREPLY) & !(own == 0)));
     if !good {
         return coded(codes::BAD_ARGUMENT);
     }
-    let t = link_tx(&*s, p, b);
-    let code = ask_link(&*s, p, t, a);
+    let t = link_tx(s, p, b);
+    let code = ask_link(s, p, t, a);
     if code != codes::TP_ACCEPTED {
         return coded(code);
     }
     let attached = open_end(b);
-    let d = open_link(&mut *s, 0, p, attached, a, t, c, 0);
+    let d = open_link(s, 0, p, attached, a, t, c, 0);
     let silent = no_reply(b);
     if silent {
         return accept(0);
@@ -190,8 +189,8 @@ pub(crate) fn tpacall(s: &mut [u32; WORDS], p: usize, a: u32, b: u32, c: u32) ->
 
 // Kind 13.
 pub(crate) fn tpconnect(s: &mut [u32; WORDS], p: usize, a: u32, b: u32, c: u32) -> Told
-    requires { (p < 16) × ((view s.old).count ≤ 32) × (length s.old ≡ words) }
-    ensures { (ruled_by result (view s.new) ≡ connect_of (view s.old) p a b c) × (length s.new ≡ words) }
+    requires { (p < 16) × ((view s.old).count ≤ 32) }
+    ensures { ruled_by result (view s.new) ≡ connect_of (view s.old) p a b c }
 {
     let service = is_service(a);
     let flags = connect_flags(b);
@@ -199,13 +198,13 @@ pub(crate) fn tpconnect(s: &mut [u32; WORDS], p: usize, a: u32, b: u32, c: u32) 
     if !good {
         return coded(codes::BAD_ARGUMENT);
     }
-    let t = link_tx(&*s, p, b);
-    let code = ask_link(&*s, p, t, a);
+    let t = link_tx(s, p, b);
+    let code = ask_link(s, p, t, a);
     if code != codes::TP_ACCEPTED {
         return coded(code);
     }
     let sender = first_sender(b);
-    let d = open_link(&mut *s, 1, p, 1, a, t, c, sender);
+    let d = open_link(s, 1, p, 1, a, t, c, sender);
     accept(d)
 }
 
@@ -259,17 +258,17 @@ pub(crate) fn dispatch_event(l: Link) -> u32
 
 // The link l at the place i becomes working for party p.
 pub(crate) fn dispatch_at(s: &mut [u32; WORDS], p: usize, i: usize, l: Link) -> Told
-    requires { (p < 16) × (i < 32) × (length s.old ≡ words) }
-    ensures { (ruled_by result (view s.new) ≡ dispatched (view s.old) p i l) × (length s.new ≡ words) }
+    requires { (p < 16) × (i < 32) }
+    ensures { ruled_by result (view s.new) ≡ dispatched (view s.old) p i l }
 {
     let event = dispatch_event(l);
-    let mut q = party_at(&*s, p);
+    let mut q = party_at(s, p);
     q.served = l.number;
     let mut k = l;
     k.state = 1;
     k.server = p as u32;
-    put_party(&mut *s, p, q);
-    put_link(&mut *s, i, k);
+    put_party(s, p, q);
+    put_link(s, i, k);
     Told {
         code: codes::TP_ACCEPTED,
         value: l.number,
@@ -281,16 +280,16 @@ pub(crate) fn dispatch_at(s: &mut [u32; WORDS], p: usize, i: usize, l: Link) -> 
 
 // Kind 14.
 pub(crate) fn dispatch(s: &mut [u32; WORDS], p: usize) -> Told
-    requires { (p < 16) × ((view s.old).count ≤ 32) × (length s.old ≡ words) }
-    ensures { (ruled_by result (view s.new) ≡ dispatch_of (view s.old) p) × (length s.new ≡ words) }
+    requires { (p < 16) × ((view s.old).count ≤ 32) }
+    ensures { ruled_by result (view s.new) ≡ dispatch_of (view s.old) p }
 {
-    let idle = is_idle(&*s, p);
+    let idle = is_idle(s, p);
     if !idle {
         return coded(codes::NOT_ALLOWED_NOW);
     }
-    let Some(i) = next_waiting(&*s, p) else {
+    let Some(i) = next_waiting(s, p) else {
         return coded(codes::NOTHING_WAITING);
     };
-    let l = link_at(&*s, i);
-    dispatch_at(&mut *s, p, i, l)
+    let l = link_at(s, i);
+    dispatch_at(s, p, i, l)
 }

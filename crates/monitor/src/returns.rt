@@ -73,16 +73,16 @@ pub(crate) fn unread_after(o: u32, l: Link) -> Link
 
 // The transactions of party p's own conversations become rollback-only; the first of its own links stands at the place `from`.
 pub(crate) fn mark_own(s: &mut [u32; WORDS], p: usize, from: usize)
-    requires { ((view s.old).count ≤ 32) × (length s.old ≡ words) × (from ≡ first_of (own_end p) (live (view s.old))) }
-    ensures { (view s.new ≡ with_parties (view s.old) (rollback_only_by p (live (view s.old)) (view s.old).parties)) × (length s.new ≡ words) }
+    requires { ((view s.old).count ≤ 32) × (from ≡ first_of (own_end p) (live (view s.old))) }
+    ensures { view s.new ≡ with_parties (view s.old) (rollback_only_by p (live (view s.old)) (view s.old).parties) }
 {
-    for i in from..count(&*s) {
-        let l = link_at(&*s, i);
+    for i in from..count(s) {
+        let l = link_at(s, i);
         let own = is_originator_end(p, l);
         if !own {
             continue;
         }
-        set_rollback_only(&mut *s, l.tx);
+        set_rollback_only(s, l.tx);
     }
 }
 
@@ -108,45 +108,44 @@ pub(crate) fn left_closed(p: usize, l: Link) -> Option<Link>
 
 // Party p's own links close.
 pub(crate) fn close_own(s: &mut [u32; WORDS], p: usize)
-    requires { ((view s.old).count ≤ 32) × (length s.old ≡ words) }
-    ensures { (view s.new ≡ close_own (view s.old) p) × (length s.new ≡ words) × ((view s.new).count ≤ 32) }
+    requires { (view s.old).count ≤ 32 }
+    ensures { (view s.new ≡ close_own (view s.old) p) × ((view s.new).count ≤ 32) }
 {
     // The sweep starts past the last link where there is none: it blanks the room all the same.
-    let from = first_own(&*s, p).unwrap_or(count(&*s));
-    mark_own(&mut *s, p, from);
-    sweep(&mut *s, from, |l| left_closed(p, l));
+    let from = first_own(s, p).unwrap_or(count(s));
+    mark_own(s, p, from);
+    sweep(s, from, |l| left_closed(p, l));
 }
 
 // Its own transaction, if any, ends without a new one.
 pub(crate) fn end_own(s: &mut [u32; WORDS], p: usize)
-    requires { (p < 16) × ((view s.old).count ≤ 32) × (length s.old ≡ words) }
-    ensures { (view s.new ≡ end_own (view s.old) p) × (length s.new ≡ words) × ((view s.new).count ≤ 32) }
+    requires { (p < 16) × ((view s.old).count ≤ 32) }
+    ensures { (view s.new ≡ end_own (view s.old) p) × ((view s.new).count ≤ 32) }
 {
-    let t = owned_at(&*s, p);
+    let t = owned_at(s, p);
     if t == 0 {
         return;
     }
-    let from = first_of_tx(&*s, t);
-    end_tx(&mut *s, p, from);
+    let from = first_of_tx(s, t);
+    end_tx(s, p, from);
 }
 
 pub(crate) fn set_served_rollback_only(s: &mut [u32; WORDS], o: u32, t: u32)
-    requires { length s.old ≡ words }
-    ensures { (view s.new ≡ rollback_only_served o t (view s.old)) × (length s.new ≡ words) }
+    ensures { view s.new ≡ rollback_only_served o t (view s.old) }
 {
     if o == codes::TPEV_SVCSUCC {
         return;
     }
-    set_rollback_only(&mut *s, t);
+    set_rollback_only(s, t);
 }
 
 pub(crate) fn serve_none(s: &mut [u32; WORDS], p: usize)
-    requires { (p < 16) × (length s.old ≡ words) }
-    ensures { (view s.new ≡ serves_none (view s.old) p) × (length s.new ≡ words) }
+    requires { p < 16 }
+    ensures { view s.new ≡ serves_none (view s.old) p }
 {
-    let mut q = party_at(&*s, p);
+    let mut q = party_at(s, p);
     q.served = 0;
-    put_party(&mut *s, p, q);
+    put_party(s, p, q);
 }
 
 pub(crate) fn ending_of(o: u32, c: u32) -> u32
@@ -160,54 +159,54 @@ pub(crate) fn ending_of(o: u32, c: u32) -> u32
 
 // The link d is returned, or goes if the originator's end is closed.
 pub(crate) fn hand_back(s: &mut [u32; WORDS], d: u32, o: u32, e: u32)
-    requires { ((view s.old).count ≤ 32) × (length s.old ≡ words) }
-    ensures { (view s.new ≡ hand_back (view s.old) d o e) × (length s.new ≡ words) }
+    requires { (view s.old).count ≤ 32 }
+    ensures { view s.new ≡ hand_back (view s.old) d o e }
 {
-    let i = place_of(&*s, d);
-    let mut l = live_at(&*s, i);
+    let i = place_of(s, d);
+    let mut l = live_at(s, i);
     if l.attached == 1 {
         l.state = 2;
         l.outcome = o;
         l.ending = e;
-        change_at(&mut *s, i, l);
+        change_at(s, i, l);
         return;
     }
-    remove_at(&mut *s, i, d);
+    remove_at(s, i, d);
 }
 
 // Party p, which serves the link d, leaves it with the outcome o and the ending token e.
 pub(crate) fn leave_link(s: &mut [u32; WORDS], p: usize, d: u32, o: u32, e: u32)
-    requires { (p < 16) × ((view s.old).count ≤ 32) × (length s.old ≡ words) }
-    ensures { (view s.new ≡ leave (view s.old) p d o e) × (length s.new ≡ words) }
+    requires { (p < 16) × ((view s.old).count ≤ 32) }
+    ensures { view s.new ≡ leave (view s.old) p d o e }
 {
-    let i = place_of(&*s, d);
-    let l = live_at(&*s, i);
+    let i = place_of(s, d);
+    let l = live_at(s, i);
     let k = unread_after(o, l);
-    change_at(&mut *s, i, k);
-    close_own(&mut *s, p);
-    end_own(&mut *s, p);
-    set_served_rollback_only(&mut *s, o, l.tx);
-    serve_none(&mut *s, p);
-    hand_back(&mut *s, d, o, e);
+    change_at(s, i, k);
+    close_own(s, p);
+    end_own(s, p);
+    set_served_rollback_only(s, o, l.tx);
+    serve_none(s, p);
+    hand_back(s, d, o, e);
 }
 
 // Party p returns with the outcome o and the token c.
 pub(crate) fn return_with(s: &mut [u32; WORDS], p: usize, o: u32, c: u32) -> Told
-    requires { (p < 16) × ((view s.old).count ≤ 32) × (length s.old ≡ words) }
-    ensures { (ruled_by result (view s.new) ≡ return_with (view s.old) p o c) × (length s.new ≡ words) }
+    requires { (p < 16) × ((view s.old).count ≤ 32) }
+    ensures { ruled_by result (view s.new) ≡ return_with (view s.old) p o c }
 {
-    let d = served_at(&*s, p);
+    let d = served_at(s, p);
     let e = ending_of(o, c);
-    leave_link(&mut *s, p, d, o, e);
+    leave_link(s, p, d, o, e);
     accept(o)
 }
 
 // Kind 20.
 pub(crate) fn tpreturn(s: &mut [u32; WORDS], p: usize, a: u32, c: u32) -> Told
-    requires { (p < 16) × ((view s.old).count ≤ 32) × (length s.old ≡ words) }
-    ensures { (ruled_by result (view s.new) ≡ return_of (view s.old) p a c) × (length s.new ≡ words) }
+    requires { (p < 16) × ((view s.old).count ≤ 32) }
+    ensures { ruled_by result (view s.new) ≡ return_of (view s.old) p a c }
 {
-    let d = served_at(&*s, p);
+    let d = served_at(s, p);
     if d == 0 {
         return coded(codes::NOT_ALLOWED_NOW);
     }
@@ -215,24 +214,24 @@ pub(crate) fn tpreturn(s: &mut [u32; WORDS], p: usize, a: u32, c: u32) -> Told
     if !good {
         return coded(codes::BAD_ARGUMENT);
     }
-    let i = place_of(&*s, d);
-    let l = live_at(&*s, i);
-    let o = outcome_of(&*s, p, a, c, l);
-    return_with(&mut *s, p, o, c)
+    let i = place_of(s, d);
+    let l = live_at(s, i);
+    let o = outcome_of(s, p, a, c, l);
+    return_with(s, p, o, c)
 }
 
 // What a party that died leaves behind.
 pub(crate) fn die_out(s: &mut [u32; WORDS], p: usize)
-    requires { (p < 16) × ((view s.old).count ≤ 32) × (length s.old ≡ words) }
-    ensures { (view s.new ≡ died_out (view s.old) p) × (length s.new ≡ words) }
+    requires { (p < 16) × ((view s.old).count ≤ 32) }
+    ensures { view s.new ≡ died_out (view s.old) p }
 {
-    let d = served_at(&*s, p);
+    let d = served_at(s, p);
     if d == 0 {
-        close_own(&mut *s, p);
-        end_own(&mut *s, p);
+        close_own(s, p);
+        end_own(s, p);
         return;
     }
-    leave_link(&mut *s, p, d, codes::TPEV_SVCERR, 0);
+    leave_link(s, p, d, codes::TPEV_SVCERR, 0);
 }
 
 // What the party is then, by what it was.
@@ -247,13 +246,13 @@ pub(crate) fn after_death(q: Party) -> Party
 
 // Kind 21.
 pub(crate) fn terminate(s: &mut [u32; WORDS], p: usize) -> Told
-    requires { (p < 16) × ((view s.old).count ≤ 32) × (length s.old ≡ words) }
-    ensures { (ruled_by result (view s.new) ≡ terminate_of (view s.old) p) × (length s.new ≡ words) }
+    requires { (p < 16) × ((view s.old).count ≤ 32) }
+    ensures { ruled_by result (view s.new) ≡ terminate_of (view s.old) p }
 {
-    let before = party_at(&*s, p);
-    die_out(&mut *s, p);
+    let before = party_at(s, p);
+    die_out(s, p);
     let after = after_death(before);
-    put_party(&mut *s, p, after);
+    put_party(s, p, after);
     if before.served == 0 {
         return accept(0);
     }

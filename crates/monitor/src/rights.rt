@@ -30,8 +30,7 @@ pub(crate) fn grant(q: Party, a: u32, set: u64) -> Party
 // Kind 23.
 #[tactic(auto, unfolding(rules::specs::Rights::rights_of, rules::specs::Choice::pick))]
 pub(crate) fn set_rights(s: &mut [u32; WORDS], p: usize, a: u32, b: u32, c: u32) -> Told
-    requires { length s.old ≡ words }
-    ensures { (ruled_by result (view s.new) ≡ rights_of (view s.old) p a b c) × (length s.new ≡ words) }
+    ensures { ruled_by result (view s.new) ≡ rights_of (view s.old) p a b c }
 {
     if p != 0 {
         return coded(codes::NOT_PERMITTED);

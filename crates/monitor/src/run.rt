@@ -47,9 +47,8 @@ pub(crate) fn put(out: &mut [i64], at: usize, r: Answer)
 
 // n calls, one after the other.
 pub(crate) fn run(s: &mut [u32; WORDS], calls: &[u32], out: &mut [i64], n: usize)
-    requires { (sound (view s.old) ≡ true) × (length s.old ≡ words) × (n * 6 ≤ length calls.now) × (n * 6 ≤ length out.old) }
-    ensures { (view s.new ≡ ran_of n (view s.old) calls.now)
-        × (out.new ≡ answers_of n (view s.old) calls.now ++ drop (n * 6) out.old) × (length s.new ≡ words) }
+    requires { (sound (view s.old) ≡ true) × (n * 6 ≤ length calls.now) × (n * 6 ≤ length out.old) }
+    ensures { (view s.new ≡ ran_of n (view s.old) calls.now) × (out.new ≡ answers_of n (view s.old) calls.now ++ drop (n * 6) out.old) }
 {
     // By place: of what `chunks_exact_mut` lent, a proof knows only how much it was.
     for i in 0..n {
@@ -63,8 +62,7 @@ pub(crate) fn run(s: &mut [u32; WORDS], calls: &[u32], out: &mut [i64], n: usize
 // A whole list, on whatever record is lent: 0, 17, 16 or 19.
 #[tactic(auto, unfolding(rules::specs::Run::list_of, rules::specs::Choice::pick))]
 pub(crate) fn run_on(s: &mut [u32; WORDS], calls: &[u32], answers: &mut [i64]) -> i64
-    requires { length s.old ≡ words }
-    ensures { (listed result (view s.new) answers.new ≡ list_of (view s.old) calls.now answers.old) × (length s.new ≡ words) }
+    ensures { listed result (view s.new) answers.new ≡ list_of (view s.old) calls.now answers.old }
 {
     if calls.len() % 6 != 0 {
         return codes::CUT_SHORT;

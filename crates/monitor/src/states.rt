@@ -138,10 +138,10 @@ pub(crate) fn in_state(q: Party, s: State) -> Party
 
 // Party p enters a state.
 pub(crate) fn enter(s: &mut [u32; WORDS], p: usize, state: State)
-    requires { (p < 16) × (length s.old ≡ words) }
-    ensures { (view s.new ≡ entered (view s.old) p (state_number state)) × (length s.new ≡ words) }
+    requires { p < 16 }
+    ensures { view s.new ≡ entered (view s.old) p (state_number state) }
 {
-    let q = party_at(&*s, p);
+    let q = party_at(s, p);
     let k = in_state(q, state);
-    put_party(&mut *s, p, k);
+    put_party(s, p, k);
 }

@@ -27,43 +27,42 @@ use rules::{Answer, Call, codes};
 // Each kind decides by its number.
 #[tactic(auto, using(crate::proofs::Laws::sound_room), unfolding(rules::specs::Step::rule_of, rules::specs::Choice::pick))]
 pub(crate) fn rule(s: &mut [u32; WORDS], p: usize, kind: Kind, a: u32, b: u32, c: u32) -> Told
-    requires { (p < 16) × (sound (view s.old) ≡ true) × (length s.old ≡ words) }
-    ensures { (ruled_by result (view s.new) ≡ rule_of (view s.old) p (kind_number kind) a b c) × (length s.new ≡ words) }
+    requires { (p < 16) × (sound (view s.old) ≡ true) }
+    ensures { ruled_by result (view s.new) ≡ rule_of (view s.old) p (kind_number kind) a b c }
 {
     match kind {
-        Kind::TxOpen => tx_open(&mut *s, p),
-        Kind::TxClose => tx_close(&mut *s, p),
-        Kind::TxBegin => tx_begin(&mut *s, p),
-        Kind::TxCommit => tx_commit(&mut *s, p),
-        Kind::TxRollback => tx_rollback(&mut *s, p),
-        Kind::TxInfo => tx_info(&*s, p),
-        Kind::TxSetCommitReturn => tx_set_commit_return(&*s, p, a),
-        Kind::TxSetTransactionControl => tx_set_transaction_control(&mut *s, p, a),
-        Kind::TxSetTransactionTimeout => tx_set_transaction_timeout(&mut *s, p, a),
-        Kind::TpAdvertise => tpadvertise(&mut *s, p, a),
-        Kind::TpUnadvertise => tpunadvertise(&mut *s, p, a),
-        Kind::TpACall => tpacall(&mut *s, p, a, b, c),
-        Kind::TpConnect => tpconnect(&mut *s, p, a, b, c),
-        Kind::Dispatch => dispatch(&mut *s, p),
-        Kind::TpGetRply => tpgetrply(&mut *s, p, a, b),
-        Kind::TpCancel => tpcancel(&mut *s, p, a),
-        Kind::TpSend => tpsend(&mut *s, p, a, b, c),
-        Kind::TpRecv => tprecv(&mut *s, p, a),
-        Kind::TpDiscon => tpdiscon(&mut *s, p, a),
-        Kind::TpReturn => tpreturn(&mut *s, p, a, c),
-        Kind::Terminate => terminate(&mut *s, p),
-        Kind::Report => report(&mut *s, p, a, b, c),
-        Kind::SetRights => set_rights(&mut *s, p, a, b, c),
+        Kind::TxOpen => tx_open(s, p),
+        Kind::TxClose => tx_close(s, p),
+        Kind::TxBegin => tx_begin(s, p),
+        Kind::TxCommit => tx_commit(s, p),
+        Kind::TxRollback => tx_rollback(s, p),
+        Kind::TxInfo => tx_info(s, p),
+        Kind::TxSetCommitReturn => tx_set_commit_return(s, p, a),
+        Kind::TxSetTransactionControl => tx_set_transaction_control(s, p, a),
+        Kind::TxSetTransactionTimeout => tx_set_transaction_timeout(s, p, a),
+        Kind::TpAdvertise => tpadvertise(s, p, a),
+        Kind::TpUnadvertise => tpunadvertise(s, p, a),
+        Kind::TpACall => tpacall(s, p, a, b, c),
+        Kind::TpConnect => tpconnect(s, p, a, b, c),
+        Kind::Dispatch => dispatch(s, p),
+        Kind::TpGetRply => tpgetrply(s, p, a, b),
+        Kind::TpCancel => tpcancel(s, p, a),
+        Kind::TpSend => tpsend(s, p, a, b, c),
+        Kind::TpRecv => tprecv(s, p, a),
+        Kind::TpDiscon => tpdiscon(s, p, a),
+        Kind::TpReturn => tpreturn(s, p, a, c),
+        Kind::Terminate => terminate(s, p),
+        Kind::Report => report(s, p, a, b, c),
+        Kind::SetRights => set_rights(s, p, a, b, c),
     }
 }
 
 // The clock becomes the greater of its own and the call's.
 pub(crate) fn advance(s: &mut [u32; WORDS], t: u32)
-    requires { length s.old ≡ words }
-    ensures { (view s.new ≡ advanced (view s.old) t) × (length s.new ≡ words) }
+    ensures { view s.new ≡ advanced (view s.old) t }
 {
-    let now = clock(&*s);
-    set_clock(&mut *s, now.max(t));
+    let now = clock(s);
+    set_clock(s, now.max(t));
 }
 
 // What a rule tells, with the caller's T afterwards.
@@ -98,8 +97,8 @@ pub(crate) fn turn_down(code: i64) -> Answer
 
 // A call on a sound record, which leaves a sound one.
 pub(crate) fn call_on(s: &mut [u32; WORDS], c: Call) -> Answer
-    requires { (sound (view s.old) ≡ true) × (length s.old ≡ words) }
-    ensures { (stepped result (view s.new) ≡ call_of (view s.old) c) × (sound (view s.new) ≡ true) × (length s.new ≡ words) }
+    requires { sound (view s.old) ≡ true }
+    ensures { (stepped result (view s.new) ≡ call_of (view s.old) c) × (sound (view s.new) ≡ true) }
 {
     let Ok(kind) = Kind::try_from(c.kind) else {
         return turn_down(codes::UNKNOWN_KIND);
@@ -107,22 +106,21 @@ pub(crate) fn call_on(s: &mut [u32; WORDS], c: Call) -> Answer
     if c.party > 15 {
         return turn_down(codes::UNKNOWN_PARTY);
     }
-    advance(&mut *s, c.clock);
+    advance(s, c.clock);
     let p = c.party as usize;
-    let r = rule(&mut *s, p, kind, c.a, c.b, c.c);
-    tell(&*s, r, p)
+    let r = rule(s, p, kind, c.a, c.b, c.c);
+    tell(s, r, p)
 }
 
 // One call, on whatever record is lent.
 pub(crate) fn step_on(s: &mut [u32; WORDS], call: Call) -> Answer
-    requires { length s.old ≡ words }
-    ensures { (stepped result (view s.new) ≡ step_of (view s.old) call) × (length s.new ≡ words) }
+    ensures { stepped result (view s.new) ≡ step_of (view s.old) call }
 {
-    let ok = is_sound_in(&*s);
+    let ok = is_sound_in(s);
     if !ok {
         return turn_down(codes::UNSOUND);
     }
-    call_on(&mut *s, call)
+    call_on(s, call)
 }
 
 // One call.

@@ -96,8 +96,8 @@ pub(crate) fn commit_code(can: bool, rs: [u32; 4]) -> i64
 
 // Kind 22.
 pub(crate) fn report(s: &mut [u32; WORDS], p: usize, a: u32, b: u32, c: u32) -> Told
-    requires { (p < 16) × ((view s.old).count ≤ 32) × (length s.old ≡ words) }
-    ensures { (ruled_by result (view s.new) ≡ report_of (view s.old) p a b c) × (length s.new ≡ words) }
+    requires { (p < 16) × ((view s.old).count ≤ 32) }
+    ensures { ruled_by result (view s.new) ≡ report_of (view s.old) p a b c }
 {
     if !is_owner(s, p) {
         return coded(codes::NOT_ALLOWED_NOW);

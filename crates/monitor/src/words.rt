@@ -142,22 +142,20 @@ pub(crate) fn count(s: &[u32; WORDS]) -> usize
 }
 
 pub(crate) fn set_clock(s: &mut [u32; WORDS], t: u32)
-    requires { length s.old ≡ words }
-    ensures { (view s.new ≡ with_clock (view s.old) t) × (length s.new ≡ words) }
+    ensures { view s.new ≡ with_clock (view s.old) t }
 {
     s[CLOCK] = t;
 }
 
 pub(crate) fn set_last_tx(s: &mut [u32; WORDS], t: u32)
-    requires { length s.old ≡ words }
-    ensures { (view s.new ≡ with_last_tx (view s.old) t) × (length s.new ≡ words) }
+    ensures { view s.new ≡ with_last_tx (view s.old) t }
 {
     s[LAST_TX] = t;
 }
 
 pub(crate) fn set_count(s: &mut [u32; WORDS], n: usize)
-    requires { (n ≤ 32) × (length s.old ≡ words) }
-    ensures { (view s.new ≡ with_count (view s.old) n) × (length s.new ≡ words) }
+    requires { n ≤ 32 }
+    ensures { view s.new ≡ with_count (view s.old) n }
 {
     s[COUNT] = n as u32;
 }
@@ -246,8 +244,8 @@ pub(crate) fn mayrequest_at(s: &[u32; WORDS], p: usize) -> u64
 
 // The party p becomes q.
 pub(crate) fn put_party(s: &mut [u32; WORDS], p: usize, q: Party)
-    requires { (p < 16) × (length s.old ≡ words) }
-    ensures { (view s.new ≡ with_party (view s.old) p q) × (length s.new ≡ words) }
+    requires { p < 16 }
+    ensures { view s.new ≡ with_party (view s.old) p q }
 {
     let at = PARTIES + p * PARTY;
     s[at] = q.opened;
@@ -357,8 +355,8 @@ pub(crate) fn state_at(s: &[u32; WORDS], i: usize) -> u32
 
 // The link at the place i becomes l.
 pub(crate) fn put_link(s: &mut [u32; WORDS], i: usize, l: Link)
-    requires { (i < 32) × (length s.old ≡ words) }
-    ensures { (view s.new ≡ replaced (view s.old) i l) × (length s.new ≡ words) }
+    requires { i < 32 }
+    ensures { view s.new ≡ replaced (view s.old) i l }
 {
     let at = LINKS + i * LINK;
     s[at] = l.number;
@@ -384,8 +382,8 @@ pub(crate) fn put_link(s: &mut [u32; WORDS], i: usize, l: Link)
 
 // A new link, which has the next number.
 pub(crate) fn add_link(s: &mut [u32; WORDS], l: Link)
-    requires { ((view s.old).count < 32) × ((view s.old).lastlink < 60000) × (length s.old ≡ words) }
-    ensures { (view s.new ≡ added (view s.old) l) × (length s.new ≡ words) }
+    requires { ((view s.old).count < 32) × ((view s.old).lastlink < 60000) }
+    ensures { view s.new ≡ added (view s.old) l }
 {
     let i = count(s);
     let d = last_link(s);

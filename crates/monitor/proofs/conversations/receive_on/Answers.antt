@@ -9,7 +9,7 @@ pub returns-then-not-known : goal.returns-then-not-known
 unfolding receive_on
 returns-then-not-known c =
     let stranger : let a = c.args in any_end a.p a.l ≡ false = sym c.is_any_end-known.ensures ∙ c.if-not-known.true in
-    (refused c.coded.ensures (pick_false _ _ _ stranger), c.requires.1)
+    (refused c.coded.ensures (pick_false _ _ _ stranger))
 
 pub returns-then-late : goal.returns-then-late
 unfolding receive_on
@@ -19,7 +19,7 @@ returns-then-late c =
     ask m (any_end a.p a.l) no_such_end (ask m (not (expired m a.l.tx)) timed_out r) in
     let known : let a = c.args in any_end a.p a.l ≡ true = sym c.is_any_end-known.ensures ∙ c.if-not-known.false in
     let late : (r : Ruled) → asks r ≡ ruled (view c.args.s.now) timed_out = λ r. pick_true _ _ _ known ∙ pick_false _ _ _ (ap not (sym c.is_expired-late.ensures ∙ c.if-late.true)) in
-    (refused c.coded-then-late.ensures (late _), c.requires.1)
+    (refused c.coded-then-late.ensures (late _))
 
 pub returns-then-disconnected : goal.returns-then-disconnected
 unfolding receive_on
@@ -31,7 +31,7 @@ returns-then-disconnected c =
     let timely : (r : Ruled) → asks r ≡ r = λ r. pick_true _ _ _ known ∙ pick_true _ _ _ (ap not (sym c.is_expired-late.ensures ∙ c.if-late.false)) in
     let hears : Bool = hears_disconnect c.args.p c.args.l in
     let disconnected : (x r : Ruled) → asks (pick hears x r) ≡ x = λ x r. timely _ ∙ pick_true _ _ _ (sym c.hears_disconnect-disconnected.ensures ∙ c.if-disconnected.true) in
-    (c.tell_disconnect.ensures.0 ∙ sym (disconnected _ _), c.tell_disconnect.ensures.1)
+    (c.tell_disconnect.ensures ∙ sym (disconnected _ _))
 
 pub returns-then-over : goal.returns-then-over
 unfolding receive_on
@@ -45,8 +45,7 @@ returns-then-over c =
     let talks : (x r : Ruled) → asks (pick hears x r) ≡ r = λ x r. timely _ ∙ pick_false _ _ _ (sym c.hears_disconnect-disconnected.ensures ∙ c.if-disconnected.false) in
     let returned : Bool = let a = c.args in hears_return a.p a.l in
     let over : returned ≡ true = sym c.hears_return-over.ensures ∙ c.if-over.true in (
-      c.tell_return.ensures.0 ∙ sym (talks _ _ ∙ pick_true _ _ _ over),
-      c.tell_return.ensures.1,
+      c.tell_return.ensures ∙ sym (talks _ _ ∙ pick_true _ _ _ over)
     )
 
 pub returns-then-sender : goal.returns-then-sender
@@ -62,7 +61,7 @@ returns-then-sender c =
     let returned : Bool = let a = c.args in hears_return a.p a.l in
     let going : (x y r : Ruled) → asks (pick hears x (pick returned y r)) ≡ r = λ x y r. talks _ _ ∙ pick_false _ _ _ (sym c.hears_return-over.ensures ∙ c.if-over.false) in
     let sends = ap not (sym c.is_sender-sender.ensures ∙ c.if-sender.true) in
-    (refused c.coded-then-sender.ensures (going _ _ _ ∙ pick_false _ _ _ sends), c.requires.1)
+    (refused c.coded-then-sender.ensures (going _ _ _ ∙ pick_false _ _ _ sends))
 
 pub returns-then-l-eq0 : goal.returns-then-l-eq0
 unfolding receive_on
@@ -79,7 +78,7 @@ returns-then-l-eq0 c =
     let listens : let a = c.args in not (is_sender a.p a.l) ≡ true = ap not (sym c.is_sender-sender.ensures ∙ c.if-sender.false) in
     let empty = le-ltb 0 c.args.l.filled (omega (arith, c.if-l-eq0.true)) in
     let r = going _ _ _ ∙ pick_true _ _ _ listens ∙ pick_false _ _ _ empty in
-    (refused c.coded-then-l-eq0.ensures r, c.requires.1)
+    (refused c.coded-then-l-eq0.ensures r)
 
 pub returns : goal.returns
 unfolding receive_on
@@ -95,10 +94,9 @@ returns c =
     let going : (x y r : Ruled) → asks (pick hears x (pick returned y r)) ≡ r = λ x y r. talks _ _ ∙ pick_false _ _ _ (sym c.hears_return-over.ensures ∙ c.if-over.false) in
     let listens : let a = c.args in not (is_sender a.p a.l) ≡ true = ap not (sym c.is_sender-sender.ensures ∙ c.if-sender.false) in
     let unread : ltb 0 c.args.l.filled ≡ true = lt-ltb 0 c.args.l.filled (omega (arith, c.if-l-eq0.false)) in (
-      c.receive.ensures.0
+      c.receive.ensures
           ∙ sym
           (going _ _ _
           ∙ pick_true _ _ _ listens
-          ∙ pick_true _ _ _ unread),
-      c.receive.ensures.1,
+          ∙ pick_true _ _ _ unread)
     )

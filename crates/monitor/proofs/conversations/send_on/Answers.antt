@@ -10,14 +10,13 @@ pub returns-then-not-known : goal.returns-then-not-known
 unfolding send_on
 returns-then-not-known c =
     let stranger : let a = c.args in any_end a.p a.l ≡ false = sym c.is_any_end-known.ensures ∙ c.if-not-known.true in
-    (refused c.coded.ensures (pick_false _ _ _ stranger), c.requires.1)
+    (refused c.coded.ensures (pick_false _ _ _ stranger))
 
 pub returns-then-b-gt1 : goal.returns-then-b-gt1
 unfolding send_on
 returns-then-b-gt1 c =
     let known : let a = c.args in any_end a.p a.l ≡ true = sym c.is_any_end-known.ensures ∙ c.if-not-known.false in (
-      refused c.coded-then-b-gt1.ensures (pick_true _ _ _ known ∙ pick_false _ _ _ (lt-leb _ _ c.if-b-gt1.true)),
-      c.requires.1,
+      refused c.coded-then-b-gt1.ensures (pick_true _ _ _ known ∙ pick_false _ _ _ (lt-leb _ _ c.if-b-gt1.true))
     )
 
 pub returns-then-late : goal.returns-then-late
@@ -30,7 +29,7 @@ returns-then-late c =
     let known : let a = c.args in any_end a.p a.l ≡ true = sym c.is_any_end-known.ensures ∙ c.if-not-known.false in
     let flagged : (r : Ruled) → opens r ≡ r = λ r. pick_true _ _ _ known ∙ pick_true _ _ _ (le-leb _ _ c.if-b-gt1.false) in
     let late : (r : Ruled) → asks r ≡ ruled (view c.args.s.now) timed_out = λ r. flagged _ ∙ pick_false _ _ _ (ap not (sym c.is_expired-late.ensures ∙ c.if-late.true)) in
-    (refused c.coded-then-late.ensures (late _), c.requires.1)
+    (refused c.coded-then-late.ensures (late _))
 
 pub returns-then-disconnected : goal.returns-then-disconnected
 unfolding send_on
@@ -44,7 +43,7 @@ returns-then-disconnected c =
     let timely : (r : Ruled) → asks r ≡ r = λ r. flagged _ ∙ pick_true _ _ _ (ap not (sym c.is_expired-late.ensures ∙ c.if-late.false)) in
     let hears : Bool = hears_disconnect c.args.p c.args.l in
     let disconnected : (x r : Ruled) → asks (pick hears x r) ≡ x = λ x r. timely _ ∙ pick_true _ _ _ (sym c.hears_disconnect-disconnected.ensures ∙ c.if-disconnected.true) in
-    (c.tell_disconnect.ensures.0 ∙ sym (disconnected _ _), c.tell_disconnect.ensures.1)
+    (c.tell_disconnect.ensures ∙ sym (disconnected _ _))
 
 pub returns-then-failed : goal.returns-then-failed
 unfolding send_on
@@ -60,8 +59,7 @@ returns-then-failed c =
     let talks : (x r : Ruled) → asks (pick hears x r) ≡ r = λ x r. timely _ ∙ pick_false _ _ _ (sym c.hears_disconnect-disconnected.ensures ∙ c.if-disconnected.false) in
     let fails : Bool = let a = c.args in hears_return a.p a.l && not (eqb a.l.outcome tpev_svc_succ) in
     let failed : fails ≡ true = rw c.hears_return-over.ensures at c.if-failed.true in (
-      c.tell_return.ensures.0 ∙ sym (talks _ _ ∙ pick_true _ _ _ failed),
-      c.tell_return.ensures.1,
+      c.tell_return.ensures ∙ sym (talks _ _ ∙ pick_true _ _ _ failed)
     )
 
 pub returns-then-not-free : goal.returns-then-not-free
@@ -79,7 +77,7 @@ returns-then-not-free c =
     let fails : Bool = let a = c.args in hears_return a.p a.l && not (eqb a.l.outcome tpev_svc_succ) in
     let going : fails ≡ false = rw c.hears_return-over.ensures at c.if-failed.false in
     let bound = rw c.is_sender-sender.ensures at c.if-not-free.true in
-    (refused c.coded-then-not-free.ensures (talks _ _ ∙ pick_false _ _ _ going ∙ pick_false _ _ _ bound), c.requires.1)
+    (refused c.coded-then-not-free.ensures (talks _ _ ∙ pick_false _ _ _ going ∙ pick_false _ _ _ bound))
 
 pub returns-then-l-ge-UNREAD : goal.returns-then-l-ge-UNREAD
 unfolding send_on
@@ -97,11 +95,11 @@ returns-then-l-ge-UNREAD c =
     let going : fails ≡ false = rw c.hears_return-over.ensures at c.if-failed.false in
     let free = rw c.is_sender-sender.ensures at c.if-not-free.false in
     let full = le-ltb _ _ c.if-l-ge-UNREAD.true in
-    (refused c.coded-then-l-ge-UNREAD.ensures (talks _ _ ∙ pick_false _ _ _ going ∙ pick_true _ _ _ free ∙ pick_false _ _ _ full), c.requires.1)
+    (refused c.coded-then-l-ge-UNREAD.ensures (talks _ _ ∙ pick_false _ _ _ going ∙ pick_true _ _ _ free ∙ pick_false _ _ _ full))
 
 pub put_link-requires : goal.put_link-requires
 put_link-requires c =
-    (omega (arith, c.requires.0, c.requires.3), c.requires.1)
+    (omega (arith, c.requires.0, c.requires.2))
 
 pub returns : goal.returns
 unfolding send_on
@@ -120,5 +118,5 @@ returns c =
     let free = rw c.is_sender-sender.ensures at c.if-not-free.false in
     let fits = lt-ltb _ _ c.if-l-ge-UNREAD.false in
     let put = c.put_link.ensures in
-    let n = changes (view c.args.s.now) c.args.a put.0 c.requires.2 c.requires.3 c.with_sent-k.ensures in
-    (ap₂ ruled_by c.accept.ensures n ∙ sym (talks _ _ ∙ pick_false _ _ _ going ∙ pick_true _ _ _ free ∙ pick_true _ _ _ fits), put.1)
+    let n = changes (view c.args.s.now) c.args.a put c.requires.1 c.requires.2 c.with_sent-k.ensures in
+    (ap₂ ruled_by c.accept.ensures n ∙ sym (talks _ _ ∙ pick_false _ _ _ going ∙ pick_true _ _ _ free ∙ pick_true _ _ _ fits))

@@ -8,4 +8,4 @@ unfolding tells_return
 returns c =
     let l = c.args.l in
     let n = c.remove_at.ensures in
-    (λ i. record { monitor = n.0 i; code = tpe_event; value = 0; event = l.outcome; token = l.ending; service = 0 }, n.1)
+    (λ i. record { monitor = n.0 i; code = tpe_event; value = 0; event = l.outcome; token = l.ending; service = 0 })

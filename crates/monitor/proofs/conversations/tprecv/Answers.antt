@@ -11,20 +11,20 @@ refuses m p a e = pick_false _ _ _ e
 pub returns-in_default : goal.returns-in_default
 returns-in_default c =
     let a = c.args in
-    let none = no_end a.s.now a.a c.requires.0 c.find_link.ensures c.in_default.is a.p in
-    (refused c.coded.ensures (refuses (view a.s.now) a.p a.a none), c.requires.1)
+    let none = no_end a.s.now a.a c.requires c.find_link.ensures c.in_default.is a.p in
+    (refused c.coded.ensures (refuses (view a.s.now) a.p a.a none))
 
 pub link_at-l-requires : goal.link_at-l-requires
-link_at-l-requires c = omega (arith, c.requires.0, (found_some _ _ c.find_link.ensures c.in-Some.is).1)
+link_at-l-requires c = omega (arith, c.requires, (found_some _ _ c.find_link.ensures c.in-Some.is).1)
 
 pub receive_on-requires : goal.receive_on-requires
-receive_on-requires c = let found = found_some _ _ c.find_link.ensures c.in-Some.is in (c.requires.0, c.requires.1, found.0, found.1)
+receive_on-requires c = let found = found_some _ _ c.find_link.ensures c.in-Some.is in (c.requires, found.0, found.1)
 
 pub returns : goal.returns
 unfolding receive_of
 returns c =
     let a = c.args in
     let l = c.link_at-l in
-    let e = l.ensures ∙ stands a.s.now a.a c.requires.0 c.find_link.ensures c.in-Some.is in
+    let e = l.ensures ∙ stands a.s.now a.a c.requires c.find_link.ensures c.in-Some.is in
     let m = view a.s.now in
-    (◌∙◌ {b = receive_on m a.p a.a l.result} c.receive_on.ensures.0 (ap (receive_on m a.p a.a) e), c.receive_on.ensures.1)
+    (◌∙◌ {b = receive_on m a.p a.a l.result} c.receive_on.ensures (ap (receive_on m a.p a.a) e))

@@ -11,20 +11,20 @@ refuses m p a b c e = pick_false _ _ _ e
 pub returns-in_default : goal.returns-in_default
 returns-in_default c =
     let a = c.args in
-    let none = no_end a.s.now a.a c.requires.0 c.find_link.ensures c.in_default.is a.p in
-    (refused c.coded.ensures (refuses (view a.s.now) a.p a.a a.b a.c none), c.requires.1)
+    let none = no_end a.s.now a.a c.requires c.find_link.ensures c.in_default.is a.p in
+    (refused c.coded.ensures (refuses (view a.s.now) a.p a.a a.b a.c none))
 
 pub link_at-l-requires : goal.link_at-l-requires
-link_at-l-requires c = omega (arith, c.requires.0, (found_some _ _ c.find_link.ensures c.in-Some.is).1)
+link_at-l-requires c = omega (arith, c.requires, (found_some _ _ c.find_link.ensures c.in-Some.is).1)
 
 pub send_on-requires : goal.send_on-requires
-send_on-requires c = let found = found_some _ _ c.find_link.ensures c.in-Some.is in (c.requires.0, c.requires.1, found.0, found.1)
+send_on-requires c = let found = found_some _ _ c.find_link.ensures c.in-Some.is in (c.requires, found.0, found.1)
 
 pub returns : goal.returns
 unfolding send_of
 returns c =
     let a = c.args in
     let l = c.link_at-l in
-    let e = l.ensures ∙ stands a.s.now a.a c.requires.0 c.find_link.ensures c.in-Some.is in
+    let e = l.ensures ∙ stands a.s.now a.a c.requires c.find_link.ensures c.in-Some.is in
     let m = view a.s.now in
-    (◌∙◌ {b = send_on m a.p a.a a.b a.c l.result} c.send_on.ensures.0 (ap (send_on m a.p a.a a.b a.c) e), c.send_on.ensures.1)
+    (◌∙◌ {b = send_on m a.p a.a a.b a.c l.result} c.send_on.ensures (ap (send_on m a.p a.a a.b a.c) e))

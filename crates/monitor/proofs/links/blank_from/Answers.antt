@@ -5,10 +5,7 @@ use Rattle.monitor.proofs.Sweep.{blank_none, blank_more}
 use Rattle.monitor.proofs.links.blank_from.Goals as goal
 
 pub loop-i-init : goal.loop-i-init
-loop-i-init c = (c.requires.2, blank_none c.args.s.now c.args.from)
-
-pub put_link-requires : goal.put_link-requires
-put_link-requires c = (omega arith, c.loop-i.invariant.0)
+loop-i-init c = blank_none c.args.s.now c.args.from
 
 pub loop-i-preserved : goal.loop-i-preserved
 loop-i-preserved c =
@@ -16,11 +13,11 @@ loop-i-preserved c =
     let v = c.loop-i in
     let p = c.put_link.ensures in
     let more = blank_more (view a.s.now) a.from v.i _ (links_long 32 0 _) (omega arith) (omega arith) c.fresh.ensures in
-    (p.1, p.0 ∙ ap (λ (m : Monitor). replaced m v.i c.fresh.result) v.invariant.1 ∙ more)
+    p ∙ ap (λ (m : Monitor). replaced m v.i c.fresh.result) v.invariant ∙ more
 
 pub returns : goal.returns
 returns c =
     let a = c.args in
     let v = c.loop-i in
     let e : v.i ≡ a.to = omega arith in
-    (v.invariant.1 ∙ ap (blanked (view a.s.now) a.from) e, v.invariant.0)
+    v.invariant ∙ ap (blanked (view a.s.now) a.from) e

@@ -5,12 +5,12 @@ use Rattle.monitor.proofs.links.change_at.Goals as goal
 pub returns-then-i-len : goal.returns-then-i-len
 returns-then-i-len c =
     let e = c.count-len.ensures in
-    let k = c.put_link.ensures.0 in
+    let k = c.put_link.ensures in
     let q = lt-ltb c.args.i (view c.args.s.now).count (omega (arith, e, c.if-i-len.true)) in
-    (k ∙ sym (pick_true _ _ _ q), c.put_link.ensures.1, count_kept k c.requires.0)
+    (k ∙ sym (pick_true _ _ _ q), count_kept k c.requires)
 
 pub returns : goal.returns
 returns c =
     let e = c.count-len.ensures in
     let q = le-ltb c.args.i (view c.args.s.now).count (omega (arith, e, c.if-i-len.false)) in
-    (sym (pick_false _ _ _ q), c.requires.1, c.requires.0)
+    (sym (pick_false _ _ _ q), c.requires)

@@ -4,12 +4,11 @@ use Rattle.monitor.proofs.Sweep.{kept_before, first_inside}
 use Rattle.monitor.proofs.links.remove_at.Goals as goal
 
 pub sweep-requires-clause-inside : goal.sweep-requires-clause-inside
-sweep-requires-clause-inside c = first_inside c.args.s.now (numbered c.args.n) c.requires.0 c.requires.2
+sweep-requires-clause-inside c = first_inside c.args.s.now (numbered c.args.n) c.requires.0 c.requires.1
 
 pub returns : goal.returns
 unfolding gone_of removed
 returns c =
     let a = c.args in
-    let kept = kept_before (gone_of a.n) (numbered a.n) (λ l e. pick_false _ _ _ e) (live (view a.s.now)) c.requires.2 in
-    let k = c.sweep.ensures.whole in
-    (c.sweep.ensures.swept (gone_of a.n) kept (λ l r t. search rules), k.0, k.1)
+    let kept = kept_before (gone_of a.n) (numbered a.n) (λ l e. pick_false _ _ _ e) (live (view a.s.now)) c.requires.1 in
+    (c.sweep.ensures.swept (gone_of a.n) kept (λ l r t. search rules), c.sweep.ensures.few)

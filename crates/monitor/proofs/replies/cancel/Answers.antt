@@ -4,11 +4,11 @@ use Rattle.monitor.proofs.replies.cancel.Goals as goal
 
 pub returns-then-l-eq2 : goal.returns-then-l-eq2
 unfolding cancelled
-returns-then-l-eq2 c = (c.remove_at.ensures.0 ∙ sym (pick_true _ _ _ (eq-eqb _ _ c.if-l-eq2.true)), c.remove_at.ensures.1)
+returns-then-l-eq2 c = (c.remove_at.ensures.0 ∙ sym (pick_true _ _ _ (eq-eqb _ _ c.if-l-eq2.true)))
 
 pub returns : goal.returns
 unfolding cancelled
 returns c =
     let m = view c.args.s.now in
-    let r = replaced_of m c.args.a _ _ c.requires.2 c.requires.3 ∙ ap (changed m c.args.a) c.close_end-k.ensures in
-    (c.put_link.ensures.0 ∙ r ∙ sym (pick_false _ _ _ (ne_eqb _ _ c.if-l-eq2.false)), c.put_link.ensures.1)
+    let r = replaced_of m c.args.a _ _ c.requires.1 c.requires.2 ∙ ap (changed m c.args.a) c.close_end-k.ensures in
+    (c.put_link.ensures ∙ r ∙ sym (pick_false _ _ _ (ne_eqb _ _ c.if-l-eq2.false)))

@@ -17,57 +17,57 @@ find_link-requires c = search (rules, sound_room)
 pub returns-in_default : goal.returns-in_default
 unfolding fetch_one
 returns-in_default c =
-    let none = no_request_end c.args.s.now c.args.a (sound_room _ c.requires.0) c.find_link.ensures c.in_default.is c.args.p in
-    (refused c.coded.ensures (pick_false _ _ _ none), c.requires.1)
+    let none = no_request_end c.args.s.now c.args.a (sound_room _ c.requires) c.find_link.ensures c.in_default.is c.args.p in
+    (refused c.coded.ensures (pick_false _ _ _ none))
 
 pub link_at-l-requires : goal.link_at-l-requires
 link_at-l-requires c =
-    omega (arith, sound_room _ c.requires.0, (found_some _ _ c.find_link.ensures c.in-Some.is).1)
+    omega (arith, sound_room _ c.requires, (found_some _ _ c.find_link.ensures c.in-Some.is).1)
 
 pub returns-then-not-own : goal.returns-then-not-own
 unfolding fetch_one
 returns-then-not-own c =
     let found : let a = c.args in let m = view a.s.now in fetch_one m a.p a.a ≡ ask m c.is_request_end-own.result no_such_end (rest m a.a c.link_at-l.result) = let a = c.args in
-    on_request_end a.s.now a.a (sound_room _ c.requires.0) c.find_link.ensures a.p (rest (view a.s.now) a.a) c.in-Some.is c.link_at-l.ensures c.is_request_end-own.ensures in
-    (refused c.coded-then-not-own.ensures (found ∙ pick_false _ _ _ (c.if-not-own.true)), c.requires.1)
+    on_request_end a.s.now a.a (sound_room _ c.requires) c.find_link.ensures a.p (rest (view a.s.now) a.a) c.in-Some.is c.link_at-l.ensures c.is_request_end-own.ensures in
+    (refused c.coded-then-not-own.ensures (found ∙ pick_false _ _ _ (c.if-not-own.true)))
 
 pub returns-then-late : goal.returns-then-late
 unfolding fetch_one
 returns-then-late c =
     let found : let a = c.args in let m = view a.s.now in fetch_one m a.p a.a ≡ ask m c.is_request_end-own.result no_such_end (rest m a.a c.link_at-l.result) = let a = c.args in
-    on_request_end a.s.now a.a (sound_room _ c.requires.0) c.find_link.ensures a.p (rest (view a.s.now) a.a) c.in-Some.is c.link_at-l.ensures c.is_request_end-own.ensures in
+    on_request_end a.s.now a.a (sound_room _ c.requires) c.find_link.ensures a.p (rest (view a.s.now) a.a) c.in-Some.is c.link_at-l.ensures c.is_request_end-own.ensures in
     let own : let a = c.args in let m = view a.s.now in fetch_one m a.p a.a ≡ timely m a.a c.link_at-l.result c.is_expired-late.result = let a = c.args in
     found
     ∙ pick_true _ _ _ (c.if-not-own.false)
     ∙ ap (timely (view a.s.now) a.a c.link_at-l.result) (sym c.is_expired-late.ensures) in
-    (refused c.coded-then-late.ensures (own ∙ pick_false _ _ _ (ap not c.if-late.true)), c.requires.1)
+    (refused c.coded-then-late.ensures (own ∙ pick_false _ _ _ (ap not c.if-late.true)))
 
 pub returns-then-l-ne2 : goal.returns-then-l-ne2
 unfolding fetch_one
 returns-then-l-ne2 c =
     let found : let a = c.args in let m = view a.s.now in fetch_one m a.p a.a ≡ ask m c.is_request_end-own.result no_such_end (rest m a.a c.link_at-l.result) = let a = c.args in
-    on_request_end a.s.now a.a (sound_room _ c.requires.0) c.find_link.ensures a.p (rest (view a.s.now) a.a) c.in-Some.is c.link_at-l.ensures c.is_request_end-own.ensures in
+    on_request_end a.s.now a.a (sound_room _ c.requires) c.find_link.ensures a.p (rest (view a.s.now) a.a) c.in-Some.is c.link_at-l.ensures c.is_request_end-own.ensures in
     let own : let a = c.args in let m = view a.s.now in fetch_one m a.p a.a ≡ timely m a.a c.link_at-l.result c.is_expired-late.result = let a = c.args in
     found
     ∙ pick_true _ _ _ (c.if-not-own.false)
     ∙ ap (timely (view a.s.now) a.a c.link_at-l.result) (sym c.is_expired-late.ensures) in
     let r = own ∙ pick_true _ _ _ (ap not c.if-late.false) ∙ pick_false _ _ _ (ne_eqb _ _ c.if-l-ne2.true) in
-    (refused c.coded-then-l-ne2.ensures r, c.requires.1)
+    (refused c.coded-then-l-ne2.ensures r)
 
 pub fetch-requires : goal.fetch-requires
 fetch-requires c =
     let found = found_some _ _ c.find_link.ensures c.in-Some.is in
-    let ends = read_ended c.args.s.now c.requires.0 _ found.1 c.link_at-l.ensures (eq-eqb _ _ c.if-l-ne2.false) in
-    (sound_room _ c.requires.0, c.requires.1, found.0, ends)
+    let ends = read_ended c.args.s.now c.requires _ found.1 c.link_at-l.ensures (eq-eqb _ _ c.if-l-ne2.false) in
+    (sound_room _ c.requires, found.0, ends)
 
 pub returns : goal.returns
 unfolding fetch_one
 returns c =
     let found : let a = c.args in let m = view a.s.now in fetch_one m a.p a.a ≡ ask m c.is_request_end-own.result no_such_end (rest m a.a c.link_at-l.result) = let a = c.args in
-    on_request_end a.s.now a.a (sound_room _ c.requires.0) c.find_link.ensures a.p (rest (view a.s.now) a.a) c.in-Some.is c.link_at-l.ensures c.is_request_end-own.ensures in
+    on_request_end a.s.now a.a (sound_room _ c.requires) c.find_link.ensures a.p (rest (view a.s.now) a.a) c.in-Some.is c.link_at-l.ensures c.is_request_end-own.ensures in
     let own : let a = c.args in let m = view a.s.now in fetch_one m a.p a.a ≡ timely m a.a c.link_at-l.result c.is_expired-late.result = let a = c.args in
     found
     ∙ pick_true _ _ _ (c.if-not-own.false)
     ∙ ap (timely (view a.s.now) a.a c.link_at-l.result) (sym c.is_expired-late.ensures) in
     let r = own ∙ pick_true _ _ _ (ap not c.if-late.false) ∙ pick_true _ _ _ (eq-eqb _ _ c.if-l-ne2.false) in
-    (c.fetch.ensures.0 ∙ sym r, c.fetch.ensures.1)
+    (c.fetch.ensures ∙ sym r)

@@ -5,16 +5,16 @@ use Rattle.monitor.proofs.replies.tpgetrply.Goals as goal
 
 pub returns-then-b-gt1 : goal.returns-then-b-gt1
 unfolding fetch_of
-returns-then-b-gt1 c = (refused c.coded.ensures (pick_false _ _ _ (lt-leb _ _ c.if-b-gt1.true)), c.requires.1)
+returns-then-b-gt1 c = (refused c.coded.ensures (pick_false _ _ _ (lt-leb _ _ c.if-b-gt1.true)))
 
 pub returns-then-b-eq-TPGETANY : goal.returns-then-b-eq-TPGETANY
 unfolding fetch_of
 returns-then-b-eq-TPGETANY c =
     let any = pick_true _ _ _ (le-leb _ _ c.if-b-gt1.false) ∙ pick_true _ _ _ (eq-eqb _ _ c.if-b-eq-TPGETANY.true) in
-    (c.fetch_any.ensures.0 ∙ sym any, c.fetch_any.ensures.1)
+    (c.fetch_any.ensures ∙ sym any)
 
 pub returns : goal.returns
 unfolding fetch_of
 returns c =
     let one = pick_true _ _ _ (le-leb _ _ c.if-b-gt1.false) ∙ pick_false _ _ _ (ne_eqb _ _ c.if-b-eq-TPGETANY.false) in
-    (c.fetch_one.ensures.0 ∙ sym one, c.fetch_one.ensures.1)
+    (c.fetch_one.ensures ∙ sym one)

@@ -7,20 +7,20 @@ pub returns-then-not-idle : goal.returns-then-not-idle
 unfolding dispatch_of
 returns-then-not-idle c =
     let busy = sym c.is_idle-idle.ensures ∙ c.if-not-idle.true in
-    (refused c.coded.ensures (pick_false _ _ _ busy), c.requires.2)
+    (refused c.coded.ensures (pick_false _ _ _ busy))
 
 pub returns-in_default : goal.returns-in_default
 unfolding dispatch_of
 returns-in_default c =
     let idle = sym c.is_idle-idle.ensures ∙ c.if-not-idle.false in
     let none = le-ltb _ _ (found_none _ _ c.next_waiting.ensures c.in_default.is) in
-    (refused c.coded-in_default.ensures (pick_true _ _ _ idle ∙ pick_false _ _ _ none), c.requires.2)
+    (refused c.coded-in_default.ensures (pick_true _ _ _ idle ∙ pick_false _ _ _ none))
 
 pub link_at-l-requires : goal.link_at-l-requires
 link_at-l-requires c = omega (arith, c.requires.1, (found_some _ _ c.next_waiting.ensures c.in-Some.is).1)
 
 pub dispatch_at-requires : goal.dispatch_at-requires
-dispatch_at-requires c = (c.requires.0, omega (arith, c.requires.1, (found_some _ _ c.next_waiting.ensures c.in-Some.is).1), c.requires.2)
+dispatch_at-requires c = (c.requires.0, omega (arith, c.requires.1, (found_some _ _ c.next_waiting.ensures c.in-Some.is).1))
 
 pub returns : goal.returns
 unfolding dispatch_of
@@ -32,4 +32,4 @@ returns c =
     let idle = sym c.is_idle-idle.ensures ∙ c.if-not-idle.false in
     let some = ap (λ (i : ℕ). ltb i m.count) (sym k.0) ∙ lt-ltb _ _ k.1 in
     let r = ap (dispatched m p _) l ∙ ap (λ (i : ℕ). dispatched m p i (live_at m i)) k.0 in
-    (c.dispatch_at.ensures.0 ∙ r ∙ sym (pick_true _ _ _ idle ∙ pick_true _ _ _ some), c.dispatch_at.ensures.1)
+    (c.dispatch_at.ensures ∙ r ∙ sym (pick_true _ _ _ idle ∙ pick_true _ _ _ some))

@@ -10,8 +10,8 @@ returns c =
     let a = c.args in
     let m = view a.s.now in
     let after =
-    c.put_link.ensures.0
-    ∙ ap (λ (k : Monitor). replaced k a.i (working a.l a.p)) c.put_party.ensures.0
+    c.put_link.ensures
+    ∙ ap (λ (k : Monitor). replaced k a.i (working a.l a.p)) c.put_party.ensures
     ∙ ap (λ (q : Party). replaced (with_party m a.p (serving q a.l.number)) a.i (working a.l a.p)) c.party_at-q.ensures in
     let event = c.dispatch_event-event.ensures in
-    (λ z. record { monitor = after z; code = tp_accepted; value = a.l.number; event = event z; token = a.l.first; service = a.l.service }, c.put_link.ensures.1)
+    (λ z. record { monitor = after z; code = tp_accepted; value = a.l.number; event = event z; token = a.l.first; service = a.l.service })

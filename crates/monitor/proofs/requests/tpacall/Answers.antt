@@ -25,7 +25,7 @@ pub returns-then-not-good : goal.returns-then-not-good
 unfolding request_of
 returns-then-not-good c =
     let good : let a = c.args in isGood (is_service a.a) a.b (tx_of (view a.s.now) a.p) ≡ isGood c.is_service-service.result a.b c.tx_of-own.result = sym (ap₂ (λ (s : Bool) (t : ℕ). isGood s c.args.b t) c.is_service-service.ensures c.tx_of-own.ensures) in
-    (not_good _ _ _ _ _ _ (good ∙ c.if-not-good.true) c.coded.ensures, c.requires.2)
+    (not_good _ _ _ _ _ _ (good ∙ c.if-not-good.true) c.coded.ensures)
 
 pub returns-then-code-ne-TP_ACCEPTED : goal.returns-then-code-ne-TP_ACCEPTED
 unfolding request_of
@@ -37,7 +37,7 @@ returns-then-code-ne-TP_ACCEPTED c =
     let a = c.args in
     let m = view a.s.now in
     let passes = good ∙ c.if-not-good.false in
-    (stopped m _ _ _ _ (requested m a.p a.a a.b a.c) passes answer c.if-code-ne-TP_ACCEPTED.true c.coded-then-code-ne-TP_ACCEPTED.ensures, c.requires.2)
+    (stopped m _ _ _ _ (requested m a.p a.a a.b a.c) passes answer c.if-code-ne-TP_ACCEPTED.true c.coded-then-code-ne-TP_ACCEPTED.ensures)
 
 pub open_link-d-requires : goal.open_link-d-requires
 open_link-d-requires c =
@@ -60,7 +60,7 @@ returns-then-silent c =
     makes m a.p a.a a.b a.c c.open_link-d.ensures.1 c.open_end-attached.ensures t v r
     ∙ opened m a.p (link_tx m a.p a.b) a.a _ (requested m a.p a.a a.b a.c) passes answer c.if-code-ne-TP_ACCEPTED.false in
     let v = sym (pick_true _ _ _ (sym c.no_reply-silent.ensures ∙ c.if-silent.true)) in
-    (link-told _ _ v c.accept.ensures, c.open_link-d.ensures.2)
+    (link-told _ _ v c.accept.ensures)
 
 pub returns : goal.returns
 unfolding request_of
@@ -76,4 +76,4 @@ returns c =
     makes m a.p a.a a.b a.c c.open_link-d.ensures.1 c.open_end-attached.ensures t v r
     ∙ opened m a.p (link_tx m a.p a.b) a.a _ (requested m a.p a.a a.b a.c) passes answer c.if-code-ne-TP_ACCEPTED.false in
     let v = c.open_link-d.ensures.0 ∙ sym (pick_false _ _ _ (sym c.no_reply-silent.ensures ∙ c.if-silent.false)) in
-    (link-told _ _ v c.accept-2.ensures, c.open_link-d.ensures.2)
+    (link-told _ _ v c.accept-2.ensures)

@@ -22,7 +22,7 @@ pub returns-then-not-good : goal.returns-then-not-good
 unfolding connect_of
 returns-then-not-good c =
     let good : let a = c.args in is_service a.a && connect_flags a.b ≡ c.is_service-service.result && c.connect_flags-flags.result = sym (ap₂ ◌&&◌ c.is_service-service.ensures c.connect_flags-flags.ensures) in
-    (not_good _ _ _ _ _ _ (good ∙ c.if-not-good.true) c.coded.ensures, c.requires.2)
+    (not_good _ _ _ _ _ _ (good ∙ c.if-not-good.true) c.coded.ensures)
 
 pub returns-then-code-ne-TP_ACCEPTED : goal.returns-then-code-ne-TP_ACCEPTED
 unfolding connect_of
@@ -34,7 +34,7 @@ returns-then-code-ne-TP_ACCEPTED c =
     let a = c.args in
     let m = view a.s.now in
     let passes = good ∙ c.if-not-good.false in
-    (stopped m _ _ _ _ (connected m a.p a.a a.b a.c) passes answer c.if-code-ne-TP_ACCEPTED.true c.coded-then-code-ne-TP_ACCEPTED.ensures, c.requires.2)
+    (stopped m _ _ _ _ (connected m a.p a.a a.b a.c) passes answer c.if-code-ne-TP_ACCEPTED.true c.coded-then-code-ne-TP_ACCEPTED.ensures)
 
 pub open_link-d-requires : goal.open_link-d-requires
 open_link-d-requires c =
@@ -56,6 +56,5 @@ returns c =
     let passes = good ∙ c.if-not-good.false in
     let t = c.link_tx-t.ensures in (
       makes m a.p a.a a.b a.c o.1 t c.first_sender-sender.ensures o.0 c.accept.ensures
-          ∙ opened m a.p (link_tx m a.p a.b) a.a _ (connected m a.p a.a a.b a.c) passes answer c.if-code-ne-TP_ACCEPTED.false,
-      o.2,
+          ∙ opened m a.p (link_tx m a.p a.b) a.a _ (connected m a.p a.a a.b a.c) passes answer c.if-code-ne-TP_ACCEPTED.false
     )

@@ -17,10 +17,9 @@ pub returns-then-d-eq0 : goal.returns-then-d-eq0
 returns-then-d-eq0 c =
     let d = c.served_at-d in
     let n = ap (λ (m : Monitor). end_own m c.args.p) c.close_own.ensures.0 in
-    (c.end_own.ensures.0 ∙ n ∙ idle _ _ _ d.ensures c.if-d-eq0.true, c.end_own.ensures.1)
+    (c.end_own.ensures.0 ∙ n ∙ idle _ _ _ d.ensures c.if-d-eq0.true)
 
 pub returns : goal.returns
 returns c = (
-  c.leave_link.ensures.0 ∙ serving _ _ _ c.served_at-d.ensures c.if-d-eq0.false,
-  c.leave_link.ensures.1,
+  c.leave_link.ensures ∙ serving _ _ _ c.served_at-d.ensures c.if-d-eq0.false
 )

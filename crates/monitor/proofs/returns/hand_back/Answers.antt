@@ -21,7 +21,7 @@ returns-then-l-eq1 c =
     let n = changed_of m a.d i.result i.ensures (returned l.result a.o a.e) in
     let link = l.ensures ∙ live_of m a.d i.result i.ensures in
     let r = returns-to-originator m a.d a.o a.e l.result link c.if-l-eq1.true in
-    (c.change_at.ensures.0 ∙ n ∙ sym r, c.change_at.ensures.1)
+    (c.change_at.ensures.0 ∙ n ∙ sym r)
 
 pub returns : goal.returns
 returns c =
@@ -31,4 +31,4 @@ returns c =
     let l = c.live_at-l in
     let link = l.ensures ∙ live_of m a.d i.result i.ensures in
     let r = goes m a.d a.o a.e l.result link c.if-l-eq1.false in
-    (c.remove_at.ensures.0 ∙ sym r, c.remove_at.ensures.1)
+    (c.remove_at.ensures.0 ∙ sym r)

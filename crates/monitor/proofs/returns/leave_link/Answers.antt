@@ -15,8 +15,8 @@ serves-none-room m p h = h
 
 pub hand_back-requires : goal.hand_back-requires
 hand_back-requires c =
-    let marked = count_kept c.set_served_rollback_only.ensures.0 (set-served-rollback-only-room _ _ _ c.end_own.ensures.2) in
-    (count_kept c.serve_none.ensures.0 (serves-none-room _ _ marked), c.serve_none.ensures.1)
+    let marked = count_kept c.set_served_rollback_only.ensures (set-served-rollback-only-room _ _ _ c.end_own.ensures.1) in
+    (count_kept c.serve_none.ensures (serves-none-room _ _ marked))
 
 pub returns : goal.returns
 unfolding leave
@@ -31,6 +31,6 @@ returns c =
     let m₁ = c.change_at.ensures.0 ∙ n ∙ ap (changed m a.d) (k.ensures ∙ ap (unread_after a.o) e) in
     let m₂ = c.close_own.ensures.0 ∙ ap (λ (n : Monitor). close_own n a.p) m₁ in
     let m₃ = c.end_own.ensures.0 ∙ ap (λ (n : Monitor). end_own n a.p) m₂ in
-    let m₄ = c.set_served_rollback_only.ensures.0 ∙ ap₂ (λ (x : Link) (n : Monitor). rollback_only_served a.o x.tx n) e m₃ in
-    let m₅ = c.serve_none.ensures.0 ∙ ap (λ (n : Monitor). serves_none n a.p) m₄ in
-    (c.hand_back.ensures.0 ∙ ap (λ (n : Monitor). hand_back n a.d a.o a.e) m₅, c.hand_back.ensures.1)
+    let m₄ = c.set_served_rollback_only.ensures ∙ ap₂ (λ (x : Link) (n : Monitor). rollback_only_served a.o x.tx n) e m₃ in
+    let m₅ = c.serve_none.ensures ∙ ap (λ (n : Monitor). serves_none n a.p) m₄ in
+    (c.hand_back.ensures ∙ ap (λ (n : Monitor). hand_back n a.d a.o a.e) m₅)

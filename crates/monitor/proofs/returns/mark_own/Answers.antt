@@ -4,7 +4,7 @@ use Rattle.monitor.proofs.Closing.{mark_start, marks, unmarked, all_marked}
 use Rattle.monitor.proofs.returns.mark_own.Goals as goal
 
 pub loop-i-init : goal.loop-i-init
-loop-i-init c = mark_start c.args.p c.args.s.now c.requires.1 c.requires.0 c.requires.2
+loop-i-init c = mark_start c.args.p c.args.s.now c.requires.0 c.requires.1
 
 pub loop-i-preserved-then-not-own : goal.loop-i-preserved-then-not-own
 loop-i-preserved-then-not-own c =
@@ -16,5 +16,4 @@ loop-i-preserved c =
 
 pub returns : goal.returns
 returns c =
-    let g = c.loop-i.invariant in
-    (all_marked g (omega (arith, c.count-i-end.ensures)), g.long)
+    all_marked c.loop-i.invariant (omega (arith, c.count-i-end.ensures))

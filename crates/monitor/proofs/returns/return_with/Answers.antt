@@ -10,4 +10,4 @@ put-together m n p d o c e r f g h t = ap₂ ruled_by t (h ∙ ap₂ (λ (x y : 
 pub returns : goal.returns
 returns c =
     let n = c.leave_link in
-    (put-together _ _ _ _ _ _ _ _ c.served_at-d.ensures c.ending_of-e.ensures n.ensures.0 c.accept.ensures, n.ensures.1)
+    (put-together _ _ _ _ _ _ _ _ c.served_at-d.ensures c.ending_of-e.ensures n.ensures c.accept.ensures)

@@ -16,7 +16,7 @@ returns-then-before-eq0 c =
     let serves-none = eq-eqb _ _ (sym (ap (λ (x : Party). x.served) was) ∙ c.if-before-eq0.true) in
     let put = c.put_party.ensures in
     let value = sym (pick_true _ _ _ serves-none) in
-    (put-together _ _ _ _ _ _ _ _ _ was c.die_out.ensures.0 c.after_death-after.ensures put.0 c.accept.ensures value, put.1)
+    (put-together _ _ _ _ _ _ _ _ _ was c.die_out.ensures c.after_death-after.ensures put c.accept.ensures value)
 
 pub returns : goal.returns
 unfolding terminate_of
@@ -25,4 +25,4 @@ returns c =
     let serves = ne_eqb _ _ (λ h. c.if-before-eq0.false (ap (λ (x : Party). x.served) was ∙ h)) in
     let put = c.put_party.ensures in
     let value = sym (pick_false _ _ _ serves) in
-    (put-together _ _ _ _ _ _ _ _ _ was c.die_out.ensures.0 c.after_death-after.ensures put.0 c.accept-2.ensures value, put.1)
+    (put-together _ _ _ _ _ _ _ _ _ was c.die_out.ensures c.after_death-after.ensures put c.accept-2.ensures value)

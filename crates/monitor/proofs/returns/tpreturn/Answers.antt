@@ -17,14 +17,14 @@ pub returns-then-d-eq0 : goal.returns-then-d-eq0
 unfolding return_of
 returns-then-d-eq0 c =
     let serves-none = eq-eqb _ _ (sym c.served_at-d.ensures ∙ c.if-d-eq0.true) in
-    (ap (λ (t : Told). ruled_by t (view c.args.s.now)) c.coded.ensures ∙ sym (pick_false _ _ _ (ap not serves-none)), c.requires.2)
+    (ap (λ (t : Told). ruled_by t (view c.args.s.now)) c.coded.ensures ∙ sym (pick_false _ _ _ (ap not serves-none)))
 
 pub returns-then-not-good : goal.returns-then-not-good
 unfolding return_of
 returns-then-not-good c =
     let serves = ne_eqb _ _ (λ h. c.if-d-eq0.false (c.served_at-d.ensures ∙ h)) in
     let r = pick_true _ _ _ (ap not serves) ∙ pick_false _ _ _ (c.if-not-good.true) in
-    (ap (λ (t : Told). ruled_by t (view c.args.s.now)) c.coded-then-not-good.ensures ∙ sym r, c.requires.2)
+    (ap (λ (t : Told). ruled_by t (view c.args.s.now)) c.coded-then-not-good.ensures ∙ sym r)
 
 pub returns : goal.returns
 returns c =
@@ -36,4 +36,4 @@ returns c =
     let e = l.ensures ∙ live_of m d.result i.result i.ensures ∙ ap (link_of m) d.ensures in
     let good = c.if-not-good.false in
     let r = c.return_with.ensures in
-    (returns-well m a.p a.a a.c l.result _ _ (λ h. c.if-d-eq0.false (d.ensures ∙ h)) good e c.outcome_of-o.ensures r.0, r.1)
+    (returns-well m a.p a.a a.c l.result _ _ (λ h. c.if-d-eq0.false (d.ensures ∙ h)) good e c.outcome_of-o.ensures r)

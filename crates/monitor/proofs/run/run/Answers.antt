@@ -13,7 +13,7 @@ loop-i-init c =
     let z : a.n - 0 ≡ a.n = omega arith in
     let answers = ap (λ (k : ℕ). answers_of k m a.calls.now) z in
     let ran = ap (λ (k : ℕ). ran_of k m a.calls.now) z in
-    (refl, answers, refl, ran, c.requires.0, c.requires.1)
+    (refl, answers, refl, ran, c.requires.0)
 
 pub loop-i-preserved : goal.loop-i-preserved
 loop-i-preserved c =
@@ -32,8 +32,7 @@ loop-i-preserved c =
       turn_answers a.n v.i t a.calls.now m m₀ s e v.out a.out.now out' room w v.invariant.1,
       turn_past a.n v.i t a.calls.now m m₀ s e v.out a.out.now out' room w v.invariant.2,
       turn_ran a.n v.i t a.calls.now m m₀ s e v.invariant.3,
-      d.ensures.1,
-      d.ensures.2,
+      d.ensures.1
     )
 
 pub returns : goal.returns
@@ -51,5 +50,4 @@ returns c =
     let q : drop (v.i * 6) v.out ≡ drop (a.n * 6) a.out.now = v.invariant.2 ∙ ap (λ (j : ℕ). drop (j * 6) a.out.now) i in (
       sym (ran_none (a.n - v.i) m (drop (v.i * 6) a.calls.now) z) ∙ v.invariant.3,
       sym (take-append-drop (v.i * 6) v.out) ∙ ap (λ (r : List ℤ). r ++ drop (v.i * 6) v.out) p ∙ ap (λ (r : List ℤ). k ++ r) q,
-      v.invariant.5,
-    )
+      v.invariant.4)

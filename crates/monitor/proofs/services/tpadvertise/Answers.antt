@@ -17,11 +17,11 @@ right m p a q may = ask m may not_permitted (room m p a q (offers a q) (offered 
 
 pub returns-then-a-lt1 : goal.returns-then-a-lt1
 unfolding advertise_of
-returns-then-a-lt1 c = (refused c.coded.ensures (pick_false _ _ _ (below_services _ c.if-a-lt1.true)), c.requires.1)
+returns-then-a-lt1 c = (refused c.coded.ensures (pick_false _ _ _ (below_services _ c.if-a-lt1.true)))
 
 pub returns-then-a-gt64 : goal.returns-then-a-gt64
 unfolding advertise_of
-returns-then-a-gt64 c = (refused c.coded-then-a-gt64.ensures (pick_false _ _ _ (above_services _ c.if-a-gt64.true)), c.requires.1)
+returns-then-a-gt64 c = (refused c.coded-then-a-gt64.ensures (pick_false _ _ _ (above_services _ c.if-a-gt64.true)))
 
 pub returns-then-not-permitted : goal.returns-then-not-permitted
 unfolding advertise_of may_advertise
@@ -31,7 +31,7 @@ returns-then-not-permitted c =
     let q = c.party_at-q in
     of_service m a.p a.a (λ (x : Party). right m a.p a.a x (may_advertise a.a x)) c.if-a-lt1.false c.if-a-gt64.false q.ensures
     ∙ ap (right m a.p a.a q.result) (sym c.in_set-permitted.ensures) in
-    (refused c.coded-then-not-permitted.ensures (asked ∙ pick_false _ _ _ (c.if-not-permitted.true)), c.requires.1)
+    (refused c.coded-then-not-permitted.ensures (asked ∙ pick_false _ _ _ (c.if-not-permitted.true)))
 
 pub returns-then-not-may : goal.returns-then-not-may
 unfolding advertise_of may_advertise
@@ -45,7 +45,7 @@ returns-then-not-may c =
     let m = view a.s.now in
     asked ∙ pick_true _ _ _ (c.if-not-permitted.false)
     ∙ sym (ap₂ (room m a.p a.a c.party_at-q.result) c.is_offering-has.ensures c.service_count-some.ensures) in
-    (refused c.coded-then-not-may.ensures (permitted ∙ pick_false _ _ _ (c.if-not-may.true)), c.requires.1)
+    (refused c.coded-then-not-may.ensures (permitted ∙ pick_false _ _ _ (c.if-not-may.true)))
 
 pub returns : goal.returns
 unfolding advertise_of may_advertise
@@ -60,4 +60,4 @@ returns c =
     asked ∙ pick_true _ _ _ (c.if-not-permitted.false)
     ∙ sym (ap₂ (room m a.p a.a c.party_at-q.result) c.is_offering-has.ensures c.service_count-some.ensures) in
     let may = pick_true _ _ _ (c.if-not-may.false) in
-    (c.offer.ensures.0 ∙ ap (offers_now _ _) c.with_service-set.ensures ∙ sym (permitted ∙ may), c.offer.ensures.1)
+    (c.offer.ensures ∙ ap (offers_now _ _) c.with_service-set.ensures ∙ sym (permitted ∙ may))

@@ -12,11 +12,11 @@ rest m p a q has = ask m has not_offered (offers_now m p (without_service q.serv
 
 pub returns-then-a-lt1 : goal.returns-then-a-lt1
 unfolding unadvertise_of
-returns-then-a-lt1 c = (refused c.coded.ensures (pick_false _ _ _ (below_services _ c.if-a-lt1.true)), c.requires.1)
+returns-then-a-lt1 c = (refused c.coded.ensures (pick_false _ _ _ (below_services _ c.if-a-lt1.true)))
 
 pub returns-then-a-gt64 : goal.returns-then-a-gt64
 unfolding unadvertise_of
-returns-then-a-gt64 c = (refused c.coded-then-a-gt64.ensures (pick_false _ _ _ (above_services _ c.if-a-gt64.true)), c.requires.1)
+returns-then-a-gt64 c = (refused c.coded-then-a-gt64.ensures (pick_false _ _ _ (above_services _ c.if-a-gt64.true)))
 
 pub returns-then-not-has : goal.returns-then-not-has
 unfolding unadvertise_of
@@ -26,7 +26,7 @@ returns-then-not-has c =
     let q = c.party_at-q in
     of_service m a.p a.a (λ q. rest m a.p a.a q (offers a.a q)) c.if-a-lt1.false c.if-a-gt64.false q.ensures
     ∙ sym (ap (rest m a.p a.a q.result) c.is_offering-has.ensures) in
-    (refused c.coded-then-not-has.ensures (asked ∙ pick_false _ _ _ (c.if-not-has.true)), c.requires.1)
+    (refused c.coded-then-not-has.ensures (asked ∙ pick_false _ _ _ (c.if-not-has.true)))
 
 pub without_service-set-requires : goal.without_service-set-requires
 unfolding offers
@@ -43,4 +43,4 @@ returns c =
     of_service m a.p a.a (λ q. rest m a.p a.a q (offers a.a q)) c.if-a-lt1.false c.if-a-gt64.false q.ensures
     ∙ sym (ap (rest m a.p a.a q.result) c.is_offering-has.ensures) in
     let has = pick_true _ _ _ (c.if-not-has.false) in
-    (c.offer.ensures.0 ∙ ap (offers_now _ _) c.without_service-set.ensures ∙ sym (asked ∙ has), c.offer.ensures.1)
+    (c.offer.ensures ∙ ap (offers_now _ _) c.without_service-set.ensures ∙ sym (asked ∙ has))

@@ -17,4 +17,4 @@ returns c =
     let a = c.args in
     let n = c.set_clock.ensures in
     let later = c.max.ensures ∙ ap (λ (k : ℕ). max k a.t) c.clock-now.ensures ∙ max_later _ a.t in
-    (n.0 ∙ ap (with_clock (view a.s.now)) later, n.1)
+    (n ∙ ap (with_clock (view a.s.now)) later)

@@ -18,8 +18,7 @@ returns c =
     let now = c.clock-now in
     let q = c.party_at-q in
     let d = c.deadline-d in (
-      c.put_party.ensures.0
-          ∙ ap (λ (k : Monitor). with_party k a.p (owning q.result (last.result + 1) d.result)) c.set_last_tx.ensures.0
-          ∙ begins m a.p last.result now.result d.result q.result last.ensures now.ensures q.ensures d.ensures,
-      c.put_party.ensures.1,
+      c.put_party.ensures
+          ∙ ap (λ (k : Monitor). with_party k a.p (owning q.result (last.result + 1) d.result)) c.set_last_tx.ensures
+          ∙ begins m a.p last.result now.result d.result q.result last.ensures now.ensures q.ensures d.ensures
     )

@@ -8,11 +8,10 @@ unfolding end_of of_tx
 others-stay t l e = pick_false _ _ _ e
 
 pub sweep-requires-clause-inside : goal.sweep-requires-clause-inside
-sweep-requires-clause-inside c = first_inside c.args.s.now (of_tx c.args.t) c.requires.0 c.requires.2
+sweep-requires-clause-inside c = first_inside c.args.s.now (of_tx c.args.t) c.requires.0 c.requires.1
 
 pub returns : goal.returns
 returns c =
     let a = c.args in
-    let kept = kept_before (end_of a.t) (of_tx a.t) (others-stay a.t) (live (view a.s.now)) c.requires.2 in
-    let k = c.sweep.ensures.whole in
-    (c.sweep.ensures.swept (end_of a.t) kept (λ l r t. search rules), k.0, k.1)
+    let kept = kept_before (end_of a.t) (of_tx a.t) (others-stay a.t) (live (view a.s.now)) c.requires.1 in
+    (c.sweep.ensures.swept (end_of a.t) kept (λ l r t. search rules), c.sweep.ensures.few)

@@ -19,7 +19,7 @@ unchained S4 h = absurd (h refl)
 pub begin_tx-requires : goal.begin_tx-requires
 begin_tx-requires c =
     let last = ltb-true c.last_tx-left.result 60000 (and_r c.args.start _ c.if-start-left.true) in
-    (c.requires.0, omega (arith, last, c.last_tx-left.ensures), c.requires.2)
+    (c.requires.0, omega (arith, last, c.last_tx-left.ensures))
 
 pub returns-then-start-left : goal.returns-then-start-left
 unfolding go_on
@@ -30,9 +30,8 @@ returns-then-start-left c =
     let left = sym (ap (λ (t : ℕ). a.start && ltb t 60000) c.last_tx-left.ensures) ∙ c.if-start-left.true in
     let chained = ap (λ (s : State). eqb (state_number s) 4) c.in-S4.is in (
       code_told _ c.coded.ensures
-          ∙ ap₂ ruled (n.0 ∙ ap₂ (λ (m : Monitor) (s : State). entered m a.p (state_number s)) c.begin_tx.ensures.0 c.in-S4.is) z
-          ∙ sym (pick_true _ _ _ chained ∙ pick_true _ _ _ left),
-      n.1,
+          ∙ ap₂ ruled (n ∙ ap₂ (λ (m : Monitor) (s : State). entered m a.p (state_number s)) c.begin_tx.ensures c.in-S4.is) z
+          ∙ sym (pick_true _ _ _ chained ∙ pick_true _ _ _ left)
     )
 
 pub returns-else-start-left : goal.returns-else-start-left
@@ -46,9 +45,8 @@ returns-else-start-left c =
     let spent = sym (ap (λ (t : ℕ). a.start && ltb t 60000) c.last_tx-left.ensures) ∙ c.if-start-left.false in
     let chained = ap (λ (s : State). eqb (state_number s) 4) c.in-S4.is in (
       code_told _ c.coded-else-start-left.ensures
-          ∙ ap₂ ruled n.0 (r ∙ b.ensures ∙ ap no_begin z)
-          ∙ sym (pick_true _ _ _ chained ∙ pick_false _ _ _ spent),
-      n.1,
+          ∙ ap₂ ruled n (r ∙ b.ensures ∙ ap no_begin z)
+          ∙ sym (pick_true _ _ _ chained ∙ pick_false _ _ _ spent)
     )
 
 pub returns-in_default : goal.returns-in_default
@@ -57,4 +55,4 @@ returns-in_default c =
     let a = c.args in
     let n = c.enter-in_default.ensures in
     let z : to_z w64 (of_z w64 a.code) ≡ a.code = search rules in
-    (code_told _ c.coded-in_default.ensures ∙ ap₂ ruled n.0 z ∙ sym (pick_false _ _ _ (unchained _ c.in_default.not-S4)), n.1)
+    (code_told _ c.coded-in_default.ensures ∙ ap₂ ruled n z ∙ sym (pick_false _ _ _ (unchained _ c.in_default.not-S4)))

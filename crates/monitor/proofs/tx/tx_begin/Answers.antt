@@ -5,13 +5,13 @@ use Rattle.monitor.proofs.tx.tx_begin.Goals as goal
 
 pub returns-in_default : goal.returns-in_default
 unfolding begin_of
-returns-in_default c = (blank_told _ _ _ _ c.coded.ensures c.in_default.ensures, c.requires.2)
+returns-in_default c = (blank_told _ _ _ _ c.coded.ensures c.in_default.ensures)
 
 pub returns-then-last_tx-ge-NUMBERS : goal.returns-then-last_tx-ge-NUMBERS
 unfolding begin_of
 returns-then-last_tx-ge-NUMBERS c =
     let spent = tx_spent (view c.args.s.now) _ c.last_tx.ensures c.if-last_tx-ge-NUMBERS.true in
-    (passed_told _ _ _ _ c.in-Some.ensures _ _ c.coded-then-last_tx-ge-NUMBERS.ensures (sym (pick_false _ _ _ spent)), c.requires.2)
+    (passed_told _ _ _ _ c.in-Some.ensures _ _ c.coded-then-last_tx-ge-NUMBERS.ensures (sym (pick_false _ _ _ spent)))
 
 pub returns : goal.returns
 unfolding begin_of
@@ -20,5 +20,5 @@ returns c =
     let e = c.in-Some.ensures in
     let n = c.enter.ensures in
     let left = tx_left_lem (view a.s.now) _ c.last_tx.ensures c.if-last_tx-ge-NUMBERS.false in
-    let r = ap (λ (m : Monitor). ruled m tx_ok) (n.0 ∙ ap₂ (λ (m : Monitor) (s : ℕ). entered m a.p s) c.begin_tx.ensures.0 e) in
-    (passed_told _ _ _ _ e _ _ c.coded-2.ensures (r ∙ sym (pick_true _ _ _ left)), n.1)
+    let r = ap (λ (m : Monitor). ruled m tx_ok) (n ∙ ap₂ (λ (m : Monitor) (s : ℕ). entered m a.p s) c.begin_tx.ensures e) in
+    (passed_told _ _ _ _ e _ _ c.coded-2.ensures (r ∙ sym (pick_true _ _ _ left)))

@@ -5,14 +5,14 @@ use Rattle.monitor.proofs.tx.tx_close.Goals as goal
 
 pub returns-in_default : goal.returns-in_default
 unfolding close_of
-returns-in_default c = (blank_told _ _ _ _ c.coded.ensures c.in_default.ensures, c.requires.2)
+returns-in_default c = (blank_told _ _ _ _ c.coded.ensures c.in_default.ensures)
 
 pub returns : goal.returns
 unfolding close_of
 returns c =
     let a = c.args in
     let e = c.in-Some.ensures in
-    let n = c.enter.ensures.0 ∙ ap (entered (view a.s.now) a.p) e in
+    let n = c.enter.ensures ∙ ap (entered (view a.s.now) a.p) e in
     let k = c.set_timeout.ensures in
-    let r = ap (λ (m : Monitor). ruled m tx_ok) (k.0 ∙ ap (λ (m : Monitor). with_party m a.p (with_timeout (party m a.p) 0)) n) in
-    (passed_told _ _ _ _ e _ _ c.coded-2.ensures r, k.1)
+    let r = ap (λ (m : Monitor). ruled m tx_ok) (k ∙ ap (λ (m : Monitor). with_party m a.p (with_timeout (party m a.p) 0)) n) in
+    (passed_told _ _ _ _ e _ _ c.coded-2.ensures r)

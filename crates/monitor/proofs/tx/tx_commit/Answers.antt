@@ -7,13 +7,13 @@ use Rattle.monitor.proofs.tx.tx_commit.Goals as goal
 
 pub returns-in_default : goal.returns-in_default
 unfolding commit_of
-returns-in_default c = (blank_told _ _ _ _ c.coded.ensures c.in_default.ensures, c.requires.2)
+returns-in_default c = (blank_told _ _ _ _ c.coded.ensures c.in_default.ensures)
 
 pub returns-then-not-own : goal.returns-then-not-own
 unfolding commit_of
 returns-then-not-own c =
     let e = c.in-Some.ensures in
-    (stranger_told _ _ _ _ e _ _ c.is_owner-own.ensures c.coded-then-not-own.ensures (ap not c.if-not-own.true), c.requires.2)
+    (stranger_told _ _ _ _ e _ _ c.is_owner-own.ensures c.coded-then-not-own.ensures (ap not c.if-not-own.true))
 
 pub can_commit-can-requires : goal.can_commit-can-requires
 can_commit-can-requires c =
@@ -25,13 +25,13 @@ pub end_tx-requires : goal.end_tx-requires
 end_tx-requires c =
     let a = c.args in
     let first = first_of_owned (view a.s.now) a.p _ _ c.owned_at-t.ensures c.first_of_tx-from.ensures in
-    (c.requires.0, c.requires.1, c.requires.2, first)
+    (c.requires.0, c.requires.1, first)
 
 pub go_on-requires : goal.go_on-requires
 go_on-requires c =
     let code = c.commit_code-code in
     let z : to_z w64 (of_z w64 code.result) ≡ code.result = search rules in
-    (c.requires.0, subst EndCode (sym z) code.ensures.1, c.end_tx.ensures.1)
+    (c.requires.0, subst EndCode (sym z) code.ensures.1)
 
 pub returns : goal.returns
 unfolding commit_of
@@ -43,8 +43,7 @@ returns c =
     let reports = c.reports_at-reports.ensures in
     let starts = c.all_can_start-start.ensures ∙ ap (λ (rs : List ℕ). all_can_start rs) reports in
     let codes = z ∙ code.ensures.0 ∙ ap₂ commit_code c.can_commit-can.ensures reports in (
-      c.go_on.ensures.0
+      c.go_on.ensures
           ∙ (λ i. go_on (c.end_tx.ensures.0 i) a.p (e i) (starts i) (codes i))
-          ∙ owner_told _ _ _ _ e _ _ c.is_owner-own.ensures (ap not c.if-not-own.false),
-      c.go_on.ensures.1,
+          ∙ owner_told _ _ _ _ e _ _ c.is_owner-own.ensures (ap not c.if-not-own.false)
     )

@@ -5,7 +5,7 @@ use Rattle.monitor.proofs.tx.tx_open.Goals as goal
 
 pub returns-in_default : goal.returns-in_default
 unfolding open_of
-returns-in_default c = (blank_told _ _ _ _ c.coded.ensures c.in_default.ensures, c.requires.2)
+returns-in_default c = (blank_told _ _ _ _ c.coded.ensures c.in_default.ensures)
 
 pub returns : goal.returns
 unfolding open_of
@@ -13,5 +13,5 @@ returns c =
     let a = c.args in
     let e = c.in-Some.ensures in
     let n = c.enter.ensures in
-    let r = ap (λ (m : Monitor). ruled m tx_ok) (n.0 ∙ ap (entered (view a.s.now) a.p) e) in
-    (passed_told _ _ _ _ e _ _ c.coded-2.ensures r, n.1)
+    let r = ap (λ (m : Monitor). ruled m tx_ok) (n ∙ ap (entered (view a.s.now) a.p) e) in
+    (passed_told _ _ _ _ e _ _ c.coded-2.ensures r)

@@ -5,23 +5,23 @@ use Rattle.monitor.proofs.tx.tx_rollback.Goals as goal
 
 pub returns-in_default : goal.returns-in_default
 unfolding rollback_of
-returns-in_default c = (blank_told _ _ _ _ c.coded.ensures c.in_default.ensures, c.requires.2)
+returns-in_default c = (blank_told _ _ _ _ c.coded.ensures c.in_default.ensures)
 
 pub returns-then-not-own : goal.returns-then-not-own
 unfolding rollback_of
 returns-then-not-own c =
     let e = c.in-Some.ensures in
-    (stranger_told _ _ _ _ e _ _ c.is_owner-own.ensures c.coded-then-not-own.ensures (ap not c.if-not-own.true), c.requires.2)
+    (stranger_told _ _ _ _ e _ _ c.is_owner-own.ensures c.coded-then-not-own.ensures (ap not c.if-not-own.true))
 
 pub end_tx-requires : goal.end_tx-requires
 end_tx-requires c =
     let a = c.args in
     let first = first_of_owned (view a.s.now) a.p _ _ c.owned_at-t.ensures c.first_of_tx-from.ensures in
-    (c.requires.0, c.requires.1, c.requires.2, first)
+    (c.requires.0, c.requires.1, first)
 
 pub go_on-requires : goal.go_on-requires
 go_on-requires c =
-    (c.requires.0, inl refl, c.end_tx.ensures.1)
+    (c.requires.0, inl refl)
 
 pub returns : goal.returns
 unfolding rollback_of
@@ -29,4 +29,4 @@ returns c =
     let a = c.args in
     let e = c.in-Some.ensures in
     let starts = c.all_can_start-start.ensures ∙ ap (λ (rs : List ℕ). all_can_start rs) c.reports_at-reports.ensures in
-    (c.go_on.ensures.0 ∙ (λ i. go_on (c.end_tx.ensures.0 i) a.p (e i) (starts i) tx_ok) ∙ owner_told _ _ _ _ e _ _ c.is_owner-own.ensures (ap not c.if-not-own.false), c.go_on.ensures.1)
+    (c.go_on.ensures ∙ (λ i. go_on (c.end_tx.ensures.0 i) a.p (e i) (starts i) tx_ok) ∙ owner_told _ _ _ _ e _ _ c.is_owner-own.ensures (ap not c.if-not-own.false))

@@ -24,13 +24,13 @@ chained_next S4 x e = let o = control_odd x in omega arith
 
 pub returns-in_default : goal.returns-in_default
 unfolding control_of
-returns-in_default c = (blank_told _ _ _ _ c.coded.ensures c.in_default.ensures, c.requires.2)
+returns-in_default c = (blank_told _ _ _ _ c.coded.ensures c.in_default.ensures)
 
 pub returns-then-a-gt1 : goal.returns-then-a-gt1
 unfolding control_of
 returns-then-a-gt1 c =
     let bad = lt-leb _ _ c.if-a-gt1.true in
-    (passed_told _ _ _ _ c.in-Some.ensures _ _ c.coded-then-a-gt1.ensures (sym (pick_false _ _ _ bad)), c.requires.2)
+    (passed_told _ _ _ _ c.in-Some.ensures _ _ c.coded-then-a-gt1.ensures (sym (pick_false _ _ _ bad)))
 
 pub returns : goal.returns
 unfolding control_of
@@ -43,5 +43,5 @@ returns c =
       | then-a-eq0 w ↦ let is = ap state_number w.next-is in omega (arith, e)
       | else-a-eq0 w ↦ let is = ap state_number (w.next-is ∙ w.chained-next.ensures) in omega (arith, e, chained_next _ _ e)
     ] in
-    let r = ap (λ (m : Monitor). ruled m tx_ok) (n.0 ∙ ap (entered (view a.s.now) a.p) number) in
-    (passed_told _ _ _ _ e _ _ c.coded-2.ensures (r ∙ sym (pick_true _ _ _ (le-leb _ _ c.if-a-gt1.false))), n.1)
+    let r = ap (λ (m : Monitor). ruled m tx_ok) (n ∙ ap (entered (view a.s.now) a.p) number) in
+    (passed_told _ _ _ _ e _ _ c.coded-2.ensures (r ∙ sym (pick_true _ _ _ (le-leb _ _ c.if-a-gt1.false))))

@@ -10,7 +10,7 @@ use Rattle.monitor.proofs.votes.report.Goals.{then-a-gt3-via-then-a-gt3, then-a-
 pub returns-then-not-is_owner : goal.returns-then-not-is_owner
 unfolding report_of
 returns-then-not-is_owner c =
-    (refused c.coded.ensures (pick_false _ _ _ (sym c.is_owner.ensures ∙ c.if-not-is_owner.true)), c.requires.2)
+    (refused c.coded.ensures (pick_false _ _ _ (sym c.is_owner.ensures ∙ c.if-not-is_owner.true)))
 
 pub returns-then-a-gt3 : goal.returns-then-a-gt3
 unfolding report_of
@@ -22,7 +22,7 @@ returns-then-a-gt3 c =
       | then-a-gt3-via-else-a-gt3+then-b-gt6 w ↦ rw (le-leb _ _ w.if-a-gt3.false, lt-leb _ _ w.if-b-gt6.true)
       | then-a-gt3-via-else-a-gt3+else-b-gt6+then-c-gt1 w ↦ rw (le-leb _ _ w.if-a-gt3.false, le-leb _ _ w.if-b-gt6.false, lt-leb _ _ w.if-c-gt1.true)
     ] in
-    (refused c.coded-then-a-gt3.ensures (own ∙ pick_false _ _ _ unknown), c.requires.2)
+    (refused c.coded-then-a-gt3.ensures (own ∙ pick_false _ _ _ unknown))
 
 pub returns : goal.returns
 unfolding report_of
@@ -34,4 +34,4 @@ returns c =
     let r = ap (λ (v : ℕ). with_party m a.p (reporting (party m a.p) a.a v)) c.report_number.ensures in
     let known : is_report a.a a.b a.c ≡ true = rw (le-leb _ _ c.if-a-gt3.false, le-leb _ _ c.if-b-gt6.false, le-leb _ _ c.if-c-gt1.false) in
     let yes = pick_true _ _ _ (sym c.is_owner.ensures ∙ c.if-not-is_owner.false) ∙ pick_true _ _ _ known in
-    (ap₂ ruled_by c.accept.ensures (put.0 ∙ q ∙ r) ∙ sym yes, put.1)
+    (ap₂ ruled_by c.accept.ensures (put ∙ q ∙ r) ∙ sym yes)

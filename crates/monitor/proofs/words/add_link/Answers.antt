@@ -1,5 +1,5 @@
 -- `words::add_link` meets its contract: `put_link` writes the link, and two stores the last number and the count.
-use Rattle.monitor.proofs.Usual.{◌+◌, ap, ◌∙◌, Monitor, set, view, with_last_link, with_contents, with_count}
+use Rattle.monitor.proofs.Usual.{◌+◌, ap, ◌∙◌, rules, Monitor, set, view, with_last_link, with_contents, with_count}
 use lib.ListN.{length-set}
 use Rattle.monitor.proofs.Put.{set_last_link_law, set_count_law}
 use Rattle.monitor.proofs.words.add_link.Goals as goal
@@ -11,10 +11,7 @@ returns c =
     let i = c.count-i in
     let d = c.last_link-d in
     let ys = c.put_link.new.s in
-    let n = length-set ys 1 (d.result + 1) ∙ c.put_link.ensures.1 in (
-      set_count_law (set ys 1 (d.result + 1)) (i.result + 1) n
-          ∙ ap (λ (k : Monitor). with_count k (i.result + 1)) (set_last_link_law ys (d.result + 1) c.put_link.ensures.1)
-          ∙ ap (λ (k : Monitor). with_count (with_last_link k (d.result + 1)) (i.result + 1)) c.put_link.ensures.0
-          ∙ (λ z. with_last_link (with_contents m m.parties (set m.links (i.ensures z) a.l) (i.ensures z + 1)) (d.ensures z + 1)),
-      length-set (set ys 1 (d.result + 1)) 3 (i.result + 1) ∙ n,
-    )
+    set_count_law (set ys 1 (d.result + 1)) (i.result + 1) (length-set ys 1 (d.result + 1) ∙ search rules)
+          ∙ ap (λ (k : Monitor). with_count k (i.result + 1)) (set_last_link_law ys (d.result + 1) (search rules))
+          ∙ ap (λ (k : Monitor). with_count (with_last_link k (d.result + 1)) (i.result + 1)) c.put_link.ensures
+          ∙ (λ z. with_last_link (with_contents m m.parties (set m.links (i.ensures z) a.l) (i.ensures z + 1)) (d.ensures z + 1))

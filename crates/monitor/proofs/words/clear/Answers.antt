@@ -10,9 +10,9 @@ loop-p-preserved c =
     let x = c.fresh in
     let put = c.put_party.ensures in
     let more = cleared_more (view (replicate words 0)) v.p _ (parties_long 16 0 _) (omega arith) x.ensures in
-    (put.1, put.0 ∙ ap (λ (m : Monitor). with_party m v.p x.result) v.invariant.1 ∙ more)
+    put ∙ ap (λ (m : Monitor). with_party m v.p x.result) v.invariant ∙ more
 
 pub returns : goal.returns
 returns c =
     let e : c.loop-p.p ≡ 16 = omega arith in
-    c.loop-p.invariant.1 ∙ ap (cleared_to (view (replicate words 0))) e ∙ cleared_all (replicate words 0) ∙ zeros_fresh
+    c.loop-p.invariant ∙ ap (cleared_to (view (replicate words 0))) e ∙ cleared_all (replicate words 0) ∙ zeros_fresh

@@ -1,7 +1,7 @@
-use Rattle.monitor.proofs.Usual.{◌≡◌, length, words, view}
+use Rattle.monitor.proofs.Usual.{◌≡◌, words, view}
 use lib.ListN.{replicate}
 use Rattle.monitor.proofs.Clearing.{cleared_to}
 use Rattle.monitor.proofs.words.clear.Given as goal
 
 abbrev pub invariant-loop-p : goal.invariant-loop-p
-invariant-loop-p l = (length l.s ≡ words) × (view l.s ≡ cleared_to (view (replicate words 0)) l.p)
+invariant-loop-p l = view l.s ≡ cleared_to (view (replicate words 0)) l.p

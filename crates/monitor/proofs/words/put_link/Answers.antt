@@ -7,4 +7,4 @@ pub returns : goal.returns
 returns c =
     let a = c.args in
     let u : length a.l.unread ≡ 4 = search rules in
-    put_link_law a.s.now a.i a.l c.requires.1 c.requires.0 u _ refl
+    put_link_law a.s.now a.i a.l (search rules) c.requires u _ refl

@@ -7,4 +7,4 @@ pub returns : goal.returns
 returns c =
     let a = c.args in
     let u : length a.q.reports ≡ 4 = search rules in
-    put_party_law a.s.now a.p a.q c.requires.1 c.requires.0 u _ cc
+    put_party_law a.s.now a.p a.q (search rules) c.requires u _ cc

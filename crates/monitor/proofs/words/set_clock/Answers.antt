@@ -1,8 +1,7 @@
 -- `words::set_clock` meets its contract.
-use Rattle.monitor.proofs.Usual.{◌∙◌}
-use lib.ListN.{length-set}
+use Rattle.monitor.proofs.Usual.{rules}
 use Rattle.monitor.proofs.Put.{set_clock_law}
 use Rattle.monitor.proofs.words.set_clock.Goals as goal
 
 pub returns : goal.returns
-returns c = (set_clock_law c.args.s.now c.args.t c.requires, length-set c.args.s.now 0 c.args.t ∙ c.requires)
+returns c = set_clock_law c.args.s.now c.args.t (search rules)

@@ -1,8 +1,7 @@
 -- `words::set_last_tx` meets its contract.
-use Rattle.monitor.proofs.Usual.{◌∙◌}
-use lib.ListN.{length-set}
+use Rattle.monitor.proofs.Usual.{rules}
 use Rattle.monitor.proofs.Put.{set_last_tx_law}
 use Rattle.monitor.proofs.words.set_last_tx.Goals as goal
 
 pub returns : goal.returns
-returns c = (set_last_tx_law c.args.s.now c.args.t c.requires, length-set c.args.s.now 2 c.args.t ∙ c.requires)
+returns c = set_last_tx_law c.args.s.now c.args.t (search rules)
