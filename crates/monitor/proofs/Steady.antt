@@ -1,9 +1,10 @@
 -- A call on a sound record leaves a sound one, and its rule leaves room for the links.
 -- Assumes nothing.
-use Prim.Native.Nat.{ℕ, ◌≤◌}
-use mathlib.Core.Path.{◌≡◌, ap, ap₂, sym, ◌∙◌}
+use Prim.Native.Nat.{ℕ, ◌≤◌, ◌<◌}
+use mathlib.Core.Path.{◌≡◌, ap, sym, ◌∙◌}
 use mathlib.Core.List.{List}
 use mathlib.Core.Bool.{true}
+use native.Mathlib.Omega.{arith}
 use borrow.Author.Tests.{le-leb}
 use Rattle.rules.specs.declared.Call.{Call}
 use Rattle.rules.specs.declared.Monitor.{Monitor}
@@ -24,15 +25,16 @@ module _ (xs : List ℕ) (c : Call) where
   pub call_sound : sound (view xs) ≡ true → sound (call_of (view xs) c).monitor ≡ true
   call_sound h = (call_sound_kept (view xs) (record { shape = view_shape xs; is_sound = h }) c).is_sound
 
-  -- the rule's part of a call past question 21: r is what it gives on the record n, whose clock is set
-  module _ (known : is_kind c.kind ≡ true) (p : c.party ≤ 15) (n : Monitor) (e : n ≡ advanced (view xs) c.clock)
-      (k : ℕ) (g : k ≡ c.kind) (r : Ruled) (f : r ≡ rule_of n c.party k c.a c.b c.c) where
-    pub told_call : answered_to r c.party ≡ call_of (view xs) c
+  -- the rule's part of a call past question 21: r is what it gives for party p on the record n, whose clock is set
+  module _ (known : is_kind c.kind ≡ true) (p : ℕ) (by : p ≡ c.party) (h : p < 16) (n : Monitor) (e : n ≡ advanced (view xs) c.clock)
+      (k : ℕ) (g : k ≡ c.kind) (r : Ruled) (f : r ≡ rule_of n p k c.a c.b c.c) where
+    pub told_call : answered_to r p ≡ call_of (view xs) c
     unfolding call_of
     told_call =
-        ap (λ (x : Ruled). answered_to x c.party) (f ∙ ap₂ (λ (m : Monitor) (k : ℕ). rule_of m c.party k c.a c.b c.c) e g)
-        ∙ sym (pick_true _ _ _ known ∙ pick_true _ _ _ (le-leb _ _ p))
+        ap (λ (x : Ruled). answered_to x p) f
+        ∙ (λ z. answered_to (rule_of (e z) (by z) (g z) c.a c.b c.c) (by z))
+        ∙ sym (pick_true _ _ _ known ∙ pick_true _ _ _ (le-leb c.party 15 (omega arith)))
 
     pub rule_room : sound (view xs) ≡ true → r.monitor.count ≤ 32
     unfolding answered_to
-    rule_room h = sound_room r.monitor (ap (λ (s : Stepped). sound s.monitor) told_call ∙ call_sound h)
+    rule_room s = sound_room r.monitor (ap (λ (x : Stepped). sound x.monitor) told_call ∙ call_sound s)

@@ -6,6 +6,7 @@ ghost use Rattle.rules.specs.Conversations.{tells_return, send_on, send_of, carr
 ghost use Rattle.monitor.specs.Words.{words};
 ghost use Rattle.monitor.specs.View.{view, ruled_by};
 
+use super::party::PartyNumber;
 use super::Told;
 use super::links::{accept, coded, disconnect_link, find_link, is_own_end, remove_at};
 use super::transaction::{is_expired, set_rollback_only};
@@ -13,45 +14,45 @@ use super::words::{WORDS, link_at, put_link};
 use rules::{Link, codes};
 
 // Is it an open conversation end of party p's, as its originator?
-pub(crate) fn is_originator_end(p: usize, l: Link) -> bool
-    ensures { result ≡ originator_end p l }
+pub(crate) fn is_originator_end(p: PartyNumber, l: Link) -> bool
+    ensures { result ≡ originator_end p.index l }
 {
     let own = is_own_end(p, l);
     (l.kind == 1) & own
 }
 
 // Is it p's as its server?
-pub(crate) fn is_server_end(p: usize, l: Link) -> bool
-    ensures { result ≡ server_end p l }
+pub(crate) fn is_server_end(p: PartyNumber, l: Link) -> bool
+    ensures { result ≡ server_end p.index l }
 {
-    (l.kind == 1) & ((l.state == 1) & ((l.server as usize == p) & !(l.disconnected == 2)))
+    (l.kind == 1) & ((l.state == 1) & ((l.server as usize == p.index) & !(l.disconnected == 2)))
 }
 
-pub(crate) fn is_any_end(p: usize, l: Link) -> bool
-    ensures { result ≡ any_end p l }
+pub(crate) fn is_any_end(p: PartyNumber, l: Link) -> bool
+    ensures { result ≡ any_end p.index l }
 {
     let originates = is_originator_end(p, l);
     let serves = is_server_end(p, l);
     originates | serves
 }
 
-pub(crate) fn hears_disconnect(p: usize, l: Link) -> bool
-    ensures { result ≡ hears_disconnect p l }
+pub(crate) fn hears_disconnect(p: PartyNumber, l: Link) -> bool
+    ensures { result ≡ hears_disconnect p.index l }
 {
     let originates = is_originator_end(p, l);
     !originates & (l.disconnected == 1)
 }
 
-pub(crate) fn hears_return(p: usize, l: Link) -> bool
-    ensures { result ≡ hears_return p l }
+pub(crate) fn hears_return(p: PartyNumber, l: Link) -> bool
+    ensures { result ≡ hears_return p.index l }
 {
     let originates = is_originator_end(p, l);
     originates & ((l.state == 2) & (l.filled == 0))
 }
 
 // Party p's end: 0 the originator's, 1 the server's.
-pub(crate) fn end_side(p: usize, l: Link) -> u32
-    ensures { result ≡ end_side p l }
+pub(crate) fn end_side(p: PartyNumber, l: Link) -> u32
+    ensures { result ≡ end_side p.index l }
 {
     let originates = is_originator_end(p, l);
     if originates {
@@ -60,8 +61,8 @@ pub(crate) fn end_side(p: usize, l: Link) -> u32
     1
 }
 
-pub(crate) fn is_sender(p: usize, l: Link) -> bool
-    ensures { result ≡ is_sender p l }
+pub(crate) fn is_sender(p: PartyNumber, l: Link) -> bool
+    ensures { result ≡ is_sender p.index l }
 {
     let side = end_side(p, l);
     l.sender == side
@@ -122,7 +123,7 @@ pub(crate) fn with_sent(l: Link, b: u32, c: u32) -> Link
 // Kind 17, on the link l with the number a, which stands at the place i.
 pub(crate) fn send_on(
     s: &mut [u32; WORDS],
-    p: usize,
+    p: PartyNumber,
     i: usize,
     a: u32,
     b: u32,
@@ -130,7 +131,7 @@ pub(crate) fn send_on(
     l: Link,
 ) -> Told
     requires { ((view s.old).count ≤ 32) × (i ≡ place_of (view s.old) a) × (i < (view s.old).count) }
-    ensures { ruled_by result (view s.new) ≡ send_on (view s.old) p a b c l }
+    ensures { ruled_by result (view s.new) ≡ send_on (view s.old) p.index a b c l }
 {
     let known = is_any_end(p, l);
     if !known {
@@ -166,9 +167,9 @@ pub(crate) fn send_on(
 }
 
 // Kind 17.
-pub(crate) fn tpsend(s: &mut [u32; WORDS], p: usize, a: u32, b: u32, c: u32) -> Told
+pub(crate) fn tpsend(s: &mut [u32; WORDS], p: PartyNumber, a: u32, b: u32, c: u32) -> Told
     requires { (view s.old).count ≤ 32 }
-    ensures { ruled_by result (view s.new) ≡ send_of (view s.old) p a b c }
+    ensures { ruled_by result (view s.new) ≡ send_of (view s.old) p.index a b c }
 {
     let Some(i) = find_link(s, a) else {
         return coded(codes::NO_SUCH_END);
@@ -199,9 +200,9 @@ pub(crate) fn without_oldest(l: Link, sender: u32, granting: u32) -> Link
 }
 
 // The oldest token of the link a, which stands at the place i, comes.
-pub(crate) fn receive(s: &mut [u32; WORDS], p: usize, i: usize, a: u32, l: Link) -> Told
+pub(crate) fn receive(s: &mut [u32; WORDS], p: PartyNumber, i: usize, a: u32, l: Link) -> Told
     requires { ((view s.old).count ≤ 32) × (i ≡ place_of (view s.old) a) × (i < (view s.old).count) × (0 < l.filled) }
-    ensures { ruled_by result (view s.new) ≡ received (view s.old) p a l }
+    ensures { ruled_by result (view s.new) ≡ received (view s.old) p.index a l }
 {
     let u = l.unread;
     let token = u[0];
@@ -230,9 +231,9 @@ pub(crate) fn receive(s: &mut [u32; WORDS], p: usize, i: usize, a: u32, l: Link)
 }
 
 // Kind 18, on the link l with the number a, which stands at the place i.
-pub(crate) fn receive_on(s: &mut [u32; WORDS], p: usize, i: usize, a: u32, l: Link) -> Told
+pub(crate) fn receive_on(s: &mut [u32; WORDS], p: PartyNumber, i: usize, a: u32, l: Link) -> Told
     requires { ((view s.old).count ≤ 32) × (i ≡ place_of (view s.old) a) × (i < (view s.old).count) }
-    ensures { ruled_by result (view s.new) ≡ receive_on (view s.old) p a l }
+    ensures { ruled_by result (view s.new) ≡ receive_on (view s.old) p.index a l }
 {
     let known = is_any_end(p, l);
     if !known {
@@ -261,9 +262,9 @@ pub(crate) fn receive_on(s: &mut [u32; WORDS], p: usize, i: usize, a: u32, l: Li
 }
 
 // Kind 18.
-pub(crate) fn tprecv(s: &mut [u32; WORDS], p: usize, a: u32) -> Told
+pub(crate) fn tprecv(s: &mut [u32; WORDS], p: PartyNumber, a: u32) -> Told
     requires { (view s.old).count ≤ 32 }
-    ensures { ruled_by result (view s.new) ≡ receive_of (view s.old) p a }
+    ensures { ruled_by result (view s.new) ≡ receive_of (view s.old) p.index a }
 {
     let Some(i) = find_link(s, a) else {
         return coded(codes::NO_SUCH_END);
@@ -286,9 +287,9 @@ pub(crate) fn disconnect_at(s: &mut [u32; WORDS], i: usize, a: u32, l: Link)
 }
 
 // Kind 19.
-pub(crate) fn tpdiscon(s: &mut [u32; WORDS], p: usize, a: u32) -> Told
+pub(crate) fn tpdiscon(s: &mut [u32; WORDS], p: PartyNumber, a: u32) -> Told
     requires { (view s.old).count ≤ 32 }
-    ensures { ruled_by result (view s.new) ≡ disconnect_of (view s.old) p a }
+    ensures { ruled_by result (view s.new) ≡ disconnect_of (view s.old) p.index a }
 {
     let Some(i) = find_link(s, a) else {
         return coded(codes::NO_SUCH_END);

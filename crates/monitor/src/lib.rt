@@ -9,6 +9,7 @@ mod file;
 mod fresh;
 mod kinds;
 mod links;
+mod party;
 mod replies;
 mod requests;
 mod returns;

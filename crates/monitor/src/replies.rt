@@ -8,6 +8,7 @@ ghost use Rattle.rules.specs.Sound.{sound};
 ghost use Rattle.monitor.specs.Words.{words};
 ghost use Rattle.monitor.specs.View.{view, link_in, place_among, ruled_by};
 
+use super::party::PartyNumber;
 use super::Told;
 use super::links::{accept, close_end, coded, find_link, is_own_end, remove_at};
 use super::searches::first_link;
@@ -17,8 +18,8 @@ use super::words::{
 };
 use rules::{Link, codes};
 
-pub(crate) fn is_request_end(p: usize, l: Link) -> bool
-    ensures { result ≡ request_end p l }
+pub(crate) fn is_request_end(p: PartyNumber, l: Link) -> bool
+    ensures { result ≡ request_end p.index l }
 {
     let own = is_own_end(p, l);
     (l.kind == 0) & own
@@ -51,9 +52,9 @@ pub(crate) fn fetch(s: &mut [u32; WORDS], i: usize, a: u32, l: Link, v: u32) -> 
 }
 
 // The reply of link a.
-pub(crate) fn fetch_one(s: &mut [u32; WORDS], p: usize, a: u32) -> Told
+pub(crate) fn fetch_one(s: &mut [u32; WORDS], p: PartyNumber, a: u32) -> Told
     requires { sound (view s.old) ≡ true }
-    ensures { ruled_by result (view s.new) ≡ fetch_one (view s.old) p a }
+    ensures { ruled_by result (view s.new) ≡ fetch_one (view s.old) p.index a }
 {
     let Some(i) = find_link(s, a) else {
         return coded(codes::NO_SUCH_END);
@@ -74,28 +75,28 @@ pub(crate) fn fetch_one(s: &mut [u32; WORDS], p: usize, a: u32) -> Told
 }
 
 // Is the link at the place i one?
-pub(crate) fn is_request_end_at(s: &[u32; WORDS], p: usize, i: usize) -> bool
+pub(crate) fn is_request_end_at(s: &[u32; WORDS], p: PartyNumber, i: usize) -> bool
     requires { i < 32 }
-    ensures { result ≡ request_end p (link_in (view s.now) i) }
+    ensures { result ≡ request_end p.index (link_in (view s.now) i) }
 {
     let kind = kind_at(s, i);
     let attached = attached_at(s, i);
     let originator = originator_at(s, i);
-    (kind == 0) & ((attached == 1) & (originator as usize == p))
+    (kind == 0) & ((attached == 1) & (originator as usize == p.index))
 }
 
 // The place of party p's first open request end.
-pub(crate) fn first_request_end(s: &[u32; WORDS], p: usize) -> Option<usize>
+pub(crate) fn first_request_end(s: &[u32; WORDS], p: PartyNumber) -> Option<usize>
     requires { (view s.now).count ≤ 32 }
-    ensures { result ≡ place_among (view s.now).count (first_of (request_end p) (live (view s.now))) }
+    ensures { result ≡ place_among (view s.now).count (first_of (request_end p.index) (live (view s.now))) }
 {
     first_link(s, 0, |i| is_request_end_at(s, p, i))
 }
 
 // Is the link at the place i an open request end of party p's, of an expired transaction?
-pub(crate) fn is_expired_end(s: &[u32; WORDS], p: usize, i: usize) -> bool
+pub(crate) fn is_expired_end(s: &[u32; WORDS], p: PartyNumber, i: usize) -> bool
     requires { i < 32 }
-    ensures { result ≡ expired_end (view s.now) p (link_in (view s.now) i) }
+    ensures { result ≡ expired_end (view s.now) p.index (link_in (view s.now) i) }
 {
     let own = is_request_end_at(s, p, i);
     if !own {
@@ -106,17 +107,17 @@ pub(crate) fn is_expired_end(s: &[u32; WORDS], p: usize, i: usize) -> bool
 }
 
 // Has an open request end of party p's an expired transaction? The first of its ends stands at the place `from`.
-pub(crate) fn has_expired_end(s: &[u32; WORDS], p: usize, from: usize) -> bool
-    requires { ((view s.now).count ≤ 32) × (from ≡ first_of (request_end p) (live (view s.now))) }
-    ensures { result ≡ any_of (expired_end (view s.now) p) (live (view s.now)) }
+pub(crate) fn has_expired_end(s: &[u32; WORDS], p: PartyNumber, from: usize) -> bool
+    requires { ((view s.now).count ≤ 32) × (from ≡ first_of (request_end p.index) (live (view s.now))) }
+    ensures { result ≡ any_of (expired_end (view s.now) p.index) (live (view s.now)) }
 {
     first_link(s, from, |i| is_expired_end(s, p, i)).is_some()
 }
 
 // Is the link at the place i an open request end of party p's, with its reply there?
-pub(crate) fn is_replied_end(s: &[u32; WORDS], p: usize, i: usize) -> bool
+pub(crate) fn is_replied_end(s: &[u32; WORDS], p: PartyNumber, i: usize) -> bool
     requires { i < 32 }
-    ensures { result ≡ replied_end p (link_in (view s.now) i) }
+    ensures { result ≡ replied_end p.index (link_in (view s.now) i) }
 {
     let own = is_request_end_at(s, p, i);
     let state = state_at(s, i);
@@ -124,17 +125,17 @@ pub(crate) fn is_replied_end(s: &[u32; WORDS], p: usize, i: usize) -> bool
 }
 
 // The place of party p's returned request with the lowest number. The first of its ends stands at the place `from`.
-pub(crate) fn next_reply(s: &[u32; WORDS], p: usize, from: usize) -> Option<usize>
-    requires { ((view s.now).count ≤ 32) × (from ≡ first_of (request_end p) (live (view s.now))) }
-    ensures { result ≡ place_among (view s.now).count (next_reply (view s.now) p) }
+pub(crate) fn next_reply(s: &[u32; WORDS], p: PartyNumber, from: usize) -> Option<usize>
+    requires { ((view s.now).count ≤ 32) × (from ≡ first_of (request_end p.index) (live (view s.now))) }
+    ensures { result ≡ place_among (view s.now).count (next_reply (view s.now) p.index) }
 {
     first_link(s, from, |i| is_replied_end(s, p, i))
 }
 
 // Whichever reply is there.
-pub(crate) fn fetch_any(s: &mut [u32; WORDS], p: usize) -> Told
+pub(crate) fn fetch_any(s: &mut [u32; WORDS], p: PartyNumber) -> Told
     requires { sound (view s.old) ≡ true }
-    ensures { ruled_by result (view s.new) ≡ fetch_any (view s.old) p }
+    ensures { ruled_by result (view s.new) ≡ fetch_any (view s.old) p.index }
 {
     let Some(from) = first_request_end(s, p) else {
         return coded(codes::NO_SUCH_END);
@@ -151,9 +152,9 @@ pub(crate) fn fetch_any(s: &mut [u32; WORDS], p: usize) -> Told
 }
 
 // Kind 15.
-pub(crate) fn tpgetrply(s: &mut [u32; WORDS], p: usize, a: u32, b: u32) -> Told
+pub(crate) fn tpgetrply(s: &mut [u32; WORDS], p: PartyNumber, a: u32, b: u32) -> Told
     requires { sound (view s.old) ≡ true }
-    ensures { ruled_by result (view s.new) ≡ fetch_of (view s.old) p a b }
+    ensures { ruled_by result (view s.new) ≡ fetch_of (view s.old) p.index a b }
 {
     if b > 1 {
         return coded(codes::BAD_ARGUMENT);
@@ -178,9 +179,9 @@ pub(crate) fn cancel(s: &mut [u32; WORDS], i: usize, a: u32, l: Link)
 }
 
 // Kind 16.
-pub(crate) fn tpcancel(s: &mut [u32; WORDS], p: usize, a: u32) -> Told
+pub(crate) fn tpcancel(s: &mut [u32; WORDS], p: PartyNumber, a: u32) -> Told
     requires { (view s.old).count ≤ 32 }
-    ensures { ruled_by result (view s.new) ≡ cancel_of (view s.old) p a }
+    ensures { ruled_by result (view s.new) ≡ cancel_of (view s.old) p.index a }
 {
     let Some(i) = find_link(s, a) else {
         return coded(codes::NO_SUCH_END);

@@ -7,6 +7,7 @@ ghost use Rattle.rules.specs.Requests.{dispatch_event, dispatched, next_waiting,
 ghost use Rattle.monitor.specs.Words.{words};
 ghost use Rattle.monitor.specs.View.{view, place_among, ruled_by};
 
+use super::party::PartyNumber;
 use super::Told;
 use super::links::{accept, coded, has_own_end};
 use super::searches::first_link;
@@ -57,9 +58,9 @@ pub(crate) fn first_sender(b: u32) -> u32
     0
 }
 
-pub(crate) fn link_tx(s: &[u32; WORDS], p: usize, b: u32) -> u32
-    requires { (p < 16) × ((view s.now).count ≤ 32) }
-    ensures { result ≡ link_tx (view s.now) p b }
+pub(crate) fn link_tx(s: &[u32; WORDS], p: PartyNumber, b: u32) -> u32
+    requires { (view s.now).count ≤ 32 }
+    ensures { result ≡ link_tx (view s.now) p.index b }
 {
     let none = no_tran(b);
     if none {
@@ -72,20 +73,19 @@ pub(crate) fn link_tx(s: &[u32; WORDS], p: usize, b: u32) -> u32
 pub(crate) fn new_link(
     n: u32,
     kind: u32,
-    p: usize,
+    p: PartyNumber,
     attached: u32,
     a: u32,
     t: u32,
     c: u32,
     sender: u32,
 ) -> Link
-    requires { p < 16 }
-    ensures { result ≡ new_link n kind p attached a t c sender }
+    ensures { result ≡ new_link n kind p.index attached a t c sender }
 {
     Link {
         number: n,
         kind,
-        originator: p as u32,
+        originator: p.index as u32,
         attached,
         service: a,
         tx: t,
@@ -112,11 +112,10 @@ pub(crate) fn is_link_left(s: &[u32; WORDS]) -> bool
 }
 
 // The questions after the flags: the number of the first "no", and 0 where there is none.
-pub(crate) fn ask_link(s: &[u32; WORDS], p: usize, t: u32, a: u32) -> i64
-    requires { p < 16 }
-    ensures { result ≡ (ask_link (view s.now) p t a (valued (view s.now) 0)).code }
+pub(crate) fn ask_link(s: &[u32; WORDS], p: PartyNumber, t: u32, a: u32) -> i64
+    ensures { result ≡ (ask_link (view s.now) p.index t a (valued (view s.now) 0)).code }
 {
-    let set = mayrequest_at(s, p);
+    let set = mayrequest_at(s, p.index);
     let permitted = in_set(set, a);
     if !permitted {
         return codes::NOT_PERMITTED;
@@ -145,15 +144,15 @@ pub(crate) fn ask_link(s: &[u32; WORDS], p: usize, t: u32, a: u32) -> i64
 pub(crate) fn open_link(
     s: &mut [u32; WORDS],
     kind: u32,
-    p: usize,
+    p: PartyNumber,
     attached: u32,
     a: u32,
     t: u32,
     c: u32,
     sender: u32,
 ) -> u32
-    requires { (p < 16) × ((view s.old).count < 32) × ((view s.old).lastlink < 60000) }
-    ensures { (result ≡ (view s.old).lastlink + 1) × (view s.new ≡ added (view s.old) (new_link ((view s.old).lastlink + 1) kind p attached a t c sender)) }
+    requires { ((view s.old).count < 32) × ((view s.old).lastlink < 60000) }
+    ensures { (result ≡ (view s.old).lastlink + 1) × (view s.new ≡ added (view s.old) (new_link ((view s.old).lastlink + 1) kind p.index attached a t c sender)) }
 {
     let last = last_link(s);
     let d = last + 1;
@@ -163,9 +162,9 @@ pub(crate) fn open_link(
 }
 
 // Kind 12.
-pub(crate) fn tpacall(s: &mut [u32; WORDS], p: usize, a: u32, b: u32, c: u32) -> Told
-    requires { (p < 16) × ((view s.old).count ≤ 32) }
-    ensures { ruled_by result (view s.new) ≡ request_of (view s.old) p a b c }
+pub(crate) fn tpacall(s: &mut [u32; WORDS], p: PartyNumber, a: u32, b: u32, c: u32) -> Told
+    requires { (view s.old).count ≤ 32 }
+    ensures { ruled_by result (view s.new) ≡ request_of (view s.old) p.index a b c }
 {
     let own = tx_of(s, p);
     let service = is_service(a);
@@ -188,9 +187,9 @@ pub(crate) fn tpacall(s: &mut [u32; WORDS], p: usize, a: u32, b: u32, c: u32) ->
 }
 
 // Kind 13.
-pub(crate) fn tpconnect(s: &mut [u32; WORDS], p: usize, a: u32, b: u32, c: u32) -> Told
-    requires { (p < 16) × ((view s.old).count ≤ 32) }
-    ensures { ruled_by result (view s.new) ≡ connect_of (view s.old) p a b c }
+pub(crate) fn tpconnect(s: &mut [u32; WORDS], p: PartyNumber, a: u32, b: u32, c: u32) -> Told
+    requires { (view s.old).count ≤ 32 }
+    ensures { ruled_by result (view s.new) ≡ connect_of (view s.old) p.index a b c }
 {
     let service = is_service(a);
     let flags = connect_flags(b);
@@ -209,11 +208,11 @@ pub(crate) fn tpconnect(s: &mut [u32; WORDS], p: usize, a: u32, b: u32, c: u32) 
 }
 
 // May party p take a link?
-pub(crate) fn is_idle(s: &[u32; WORDS], p: usize) -> bool
-    requires { (p < 16) × ((view s.now).count ≤ 32) }
-    ensures { result ≡ is_idle (view s.now) p }
+pub(crate) fn is_idle(s: &[u32; WORDS], p: PartyNumber) -> bool
+    requires { (view s.now).count ≤ 32 }
+    ensures { result ≡ is_idle (view s.now) p.index }
 {
-    let q = party_at(s, p);
+    let q = party_at(s, p.index);
     if q.opened != 1 {
         return false;
     }
@@ -236,11 +235,11 @@ pub(crate) fn is_for(q: Party, l: Link) -> bool
 }
 
 // The place of the waiting link with the lowest number.
-pub(crate) fn next_waiting(s: &[u32; WORDS], p: usize) -> Option<usize>
-    requires { (p < 16) × ((view s.now).count ≤ 32) }
-    ensures { result ≡ place_among (view s.now).count (next_waiting (view s.now) p) }
+pub(crate) fn next_waiting(s: &[u32; WORDS], p: PartyNumber) -> Option<usize>
+    requires { (view s.now).count ≤ 32 }
+    ensures { result ≡ place_among (view s.now).count (next_waiting (view s.now) p.index) }
 {
-    let q = party_at(s, p);
+    let q = party_at(s, p.index);
     first_link(s, 0, |i| is_for(q, link_at(s, i)))
 }
 
@@ -257,17 +256,17 @@ pub(crate) fn dispatch_event(l: Link) -> u32
 }
 
 // The link l at the place i becomes working for party p.
-pub(crate) fn dispatch_at(s: &mut [u32; WORDS], p: usize, i: usize, l: Link) -> Told
-    requires { (p < 16) × (i < 32) }
-    ensures { ruled_by result (view s.new) ≡ dispatched (view s.old) p i l }
+pub(crate) fn dispatch_at(s: &mut [u32; WORDS], p: PartyNumber, i: usize, l: Link) -> Told
+    requires { i < 32 }
+    ensures { ruled_by result (view s.new) ≡ dispatched (view s.old) p.index i l }
 {
     let event = dispatch_event(l);
-    let mut q = party_at(s, p);
+    let mut q = party_at(s, p.index);
     q.served = l.number;
     let mut k = l;
     k.state = 1;
-    k.server = p as u32;
-    put_party(s, p, q);
+    k.server = p.index as u32;
+    put_party(s, p.index, q);
     put_link(s, i, k);
     Told {
         code: codes::TP_ACCEPTED,
@@ -279,9 +278,9 @@ pub(crate) fn dispatch_at(s: &mut [u32; WORDS], p: usize, i: usize, l: Link) -> 
 }
 
 // Kind 14.
-pub(crate) fn dispatch(s: &mut [u32; WORDS], p: usize) -> Told
-    requires { (p < 16) × ((view s.old).count ≤ 32) }
-    ensures { ruled_by result (view s.new) ≡ dispatch_of (view s.old) p }
+pub(crate) fn dispatch(s: &mut [u32; WORDS], p: PartyNumber) -> Told
+    requires { (view s.old).count ≤ 32 }
+    ensures { ruled_by result (view s.new) ≡ dispatch_of (view s.old) p.index }
 {
     let idle = is_idle(s, p);
     if !idle {

@@ -6,6 +6,7 @@ ghost use Rattle.rules.specs.Return.{plain_outcome, outcome_of, unread_after, cl
 ghost use Rattle.monitor.specs.Words.{words};
 ghost use Rattle.monitor.specs.View.{view, ruled_by};
 
+use super::party::PartyNumber;
 use super::Told;
 use super::conversations::is_originator_end;
 use super::links::{
@@ -32,11 +33,11 @@ pub(crate) fn plain_outcome(a: u32) -> u32
     codes::TPEV_SVCFAIL
 }
 
-pub(crate) fn outcome_of(s: &[u32; WORDS], p: usize, a: u32, c: u32, l: Link) -> u32
-    requires { (p < 16) × ((view s.now).count ≤ 32) }
-    ensures { result ≡ outcome_of (view s.now) p a c l }
+pub(crate) fn outcome_of(s: &[u32; WORDS], p: PartyNumber, a: u32, c: u32, l: Link) -> u32
+    requires { (view s.now).count ≤ 32 }
+    ensures { result ≡ outcome_of (view s.now) p.index a c l }
 {
-    let owned = owned_at(s, p);
+    let owned = owned_at(s, p.index);
     let ends = has_own_end(s, p);
     let open = ends | !(owned == 0);
     if open {
@@ -72,9 +73,9 @@ pub(crate) fn unread_after(o: u32, l: Link) -> Link
 }
 
 // The transactions of party p's own conversations become rollback-only; the first of its own links stands at the place `from`.
-pub(crate) fn mark_own(s: &mut [u32; WORDS], p: usize, from: usize)
-    requires { ((view s.old).count ≤ 32) × (from ≡ first_of (own_end p) (live (view s.old))) }
-    ensures { view s.new ≡ with_parties (view s.old) (rollback_only_by p (live (view s.old)) (view s.old).parties) }
+pub(crate) fn mark_own(s: &mut [u32; WORDS], p: PartyNumber, from: usize)
+    requires { ((view s.old).count ≤ 32) × (from ≡ first_of (own_end p.index) (live (view s.old))) }
+    ensures { view s.new ≡ with_parties (view s.old) (rollback_only_by p.index (live (view s.old)) (view s.old).parties) }
 {
     for i in from..count(s) {
         let l = link_at(s, i);
@@ -87,8 +88,8 @@ pub(crate) fn mark_own(s: &mut [u32; WORDS], p: usize, from: usize)
 }
 
 // What is left of a link as party p's own close.
-pub(crate) fn left_closed(p: usize, l: Link) -> Option<Link>
-    ensures { option_to_list result ≡ close_end p l }
+pub(crate) fn left_closed(p: PartyNumber, l: Link) -> Option<Link>
+    ensures { option_to_list result ≡ close_end p.index l }
 {
     let own = is_own_end(p, l);
     if !own {
@@ -107,9 +108,9 @@ pub(crate) fn left_closed(p: usize, l: Link) -> Option<Link>
 }
 
 // Party p's own links close.
-pub(crate) fn close_own(s: &mut [u32; WORDS], p: usize)
+pub(crate) fn close_own(s: &mut [u32; WORDS], p: PartyNumber)
     requires { (view s.old).count ≤ 32 }
-    ensures { (view s.new ≡ close_own (view s.old) p) × ((view s.new).count ≤ 32) }
+    ensures { (view s.new ≡ close_own (view s.old) p.index) × ((view s.new).count ≤ 32) }
 {
     // The sweep starts past the last link where there is none: it blanks the room all the same.
     let from = first_own(s, p).unwrap_or(count(s));
@@ -118,11 +119,11 @@ pub(crate) fn close_own(s: &mut [u32; WORDS], p: usize)
 }
 
 // Its own transaction, if any, ends without a new one.
-pub(crate) fn end_own(s: &mut [u32; WORDS], p: usize)
-    requires { (p < 16) × ((view s.old).count ≤ 32) }
-    ensures { (view s.new ≡ end_own (view s.old) p) × ((view s.new).count ≤ 32) }
+pub(crate) fn end_own(s: &mut [u32; WORDS], p: PartyNumber)
+    requires { (view s.old).count ≤ 32 }
+    ensures { (view s.new ≡ end_own (view s.old) p.index) × ((view s.new).count ≤ 32) }
 {
-    let t = owned_at(s, p);
+    let t = owned_at(s, p.index);
     if t == 0 {
         return;
     }
@@ -139,13 +140,12 @@ pub(crate) fn set_served_rollback_only(s: &mut [u32; WORDS], o: u32, t: u32)
     set_rollback_only(s, t);
 }
 
-pub(crate) fn serve_none(s: &mut [u32; WORDS], p: usize)
-    requires { p < 16 }
-    ensures { view s.new ≡ serves_none (view s.old) p }
+pub(crate) fn serve_none(s: &mut [u32; WORDS], p: PartyNumber)
+    ensures { view s.new ≡ serves_none (view s.old) p.index }
 {
-    let mut q = party_at(s, p);
+    let mut q = party_at(s, p.index);
     q.served = 0;
-    put_party(s, p, q);
+    put_party(s, p.index, q);
 }
 
 pub(crate) fn ending_of(o: u32, c: u32) -> u32
@@ -175,9 +175,9 @@ pub(crate) fn hand_back(s: &mut [u32; WORDS], d: u32, o: u32, e: u32)
 }
 
 // Party p, which serves the link d, leaves it with the outcome o and the ending token e.
-pub(crate) fn leave_link(s: &mut [u32; WORDS], p: usize, d: u32, o: u32, e: u32)
-    requires { (p < 16) × ((view s.old).count ≤ 32) }
-    ensures { view s.new ≡ leave (view s.old) p d o e }
+pub(crate) fn leave_link(s: &mut [u32; WORDS], p: PartyNumber, d: u32, o: u32, e: u32)
+    requires { (view s.old).count ≤ 32 }
+    ensures { view s.new ≡ leave (view s.old) p.index d o e }
 {
     let i = place_of(s, d);
     let l = live_at(s, i);
@@ -191,22 +191,22 @@ pub(crate) fn leave_link(s: &mut [u32; WORDS], p: usize, d: u32, o: u32, e: u32)
 }
 
 // Party p returns with the outcome o and the token c.
-pub(crate) fn return_with(s: &mut [u32; WORDS], p: usize, o: u32, c: u32) -> Told
-    requires { (p < 16) × ((view s.old).count ≤ 32) }
-    ensures { ruled_by result (view s.new) ≡ return_with (view s.old) p o c }
+pub(crate) fn return_with(s: &mut [u32; WORDS], p: PartyNumber, o: u32, c: u32) -> Told
+    requires { (view s.old).count ≤ 32 }
+    ensures { ruled_by result (view s.new) ≡ return_with (view s.old) p.index o c }
 {
-    let d = served_at(s, p);
+    let d = served_at(s, p.index);
     let e = ending_of(o, c);
     leave_link(s, p, d, o, e);
     accept(o)
 }
 
 // Kind 20.
-pub(crate) fn tpreturn(s: &mut [u32; WORDS], p: usize, a: u32, c: u32) -> Told
-    requires { (p < 16) × ((view s.old).count ≤ 32) }
-    ensures { ruled_by result (view s.new) ≡ return_of (view s.old) p a c }
+pub(crate) fn tpreturn(s: &mut [u32; WORDS], p: PartyNumber, a: u32, c: u32) -> Told
+    requires { (view s.old).count ≤ 32 }
+    ensures { ruled_by result (view s.new) ≡ return_of (view s.old) p.index a c }
 {
-    let d = served_at(s, p);
+    let d = served_at(s, p.index);
     if d == 0 {
         return coded(codes::NOT_ALLOWED_NOW);
     }
@@ -221,11 +221,11 @@ pub(crate) fn tpreturn(s: &mut [u32; WORDS], p: usize, a: u32, c: u32) -> Told
 }
 
 // What a party that died leaves behind.
-pub(crate) fn die_out(s: &mut [u32; WORDS], p: usize)
-    requires { (p < 16) × ((view s.old).count ≤ 32) }
-    ensures { view s.new ≡ died_out (view s.old) p }
+pub(crate) fn die_out(s: &mut [u32; WORDS], p: PartyNumber)
+    requires { (view s.old).count ≤ 32 }
+    ensures { view s.new ≡ died_out (view s.old) p.index }
 {
-    let d = served_at(s, p);
+    let d = served_at(s, p.index);
     if d == 0 {
         close_own(s, p);
         end_own(s, p);
@@ -245,14 +245,14 @@ pub(crate) fn after_death(q: Party) -> Party
 }
 
 // Kind 21.
-pub(crate) fn terminate(s: &mut [u32; WORDS], p: usize) -> Told
-    requires { (p < 16) × ((view s.old).count ≤ 32) }
-    ensures { ruled_by result (view s.new) ≡ terminate_of (view s.old) p }
+pub(crate) fn terminate(s: &mut [u32; WORDS], p: PartyNumber) -> Told
+    requires { (view s.old).count ≤ 32 }
+    ensures { ruled_by result (view s.new) ≡ terminate_of (view s.old) p.index }
 {
-    let before = party_at(s, p);
+    let before = party_at(s, p.index);
     die_out(s, p);
     let after = after_death(before);
-    put_party(s, p, after);
+    put_party(s, p.index, after);
     if before.served == 0 {
         return accept(0);
     }

@@ -4,6 +4,7 @@ ghost use Rattle.rules.specs.Rights.{granted, rights_of};
 ghost use Rattle.monitor.specs.Words.{words};
 ghost use Rattle.monitor.specs.View.{view, ruled_by};
 
+use super::party::PartyNumber;
 use super::Told;
 use super::links::{accept, coded};
 use super::words::{WORDS, long, party_at, put_party};
@@ -29,10 +30,10 @@ pub(crate) fn grant(q: Party, a: u32, set: u64) -> Party
 
 // Kind 23.
 #[tactic(auto, unfolding(rules::specs::Rights::rights_of, rules::specs::Choice::pick))]
-pub(crate) fn set_rights(s: &mut [u32; WORDS], p: usize, a: u32, b: u32, c: u32) -> Told
-    ensures { ruled_by result (view s.new) ≡ rights_of (view s.old) p a b c }
+pub(crate) fn set_rights(s: &mut [u32; WORDS], p: PartyNumber, a: u32, b: u32, c: u32) -> Told
+    ensures { ruled_by result (view s.new) ≡ rights_of (view s.old) p.index a b c }
 {
-    if p != 0 {
+    if p.index != 0 {
         return coded(codes::NOT_PERMITTED);
     }
     if a >= 32 {

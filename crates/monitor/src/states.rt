@@ -6,6 +6,7 @@ ghost use Rattle.monitor.specs.Words.{words};
 ghost use Rattle.monitor.specs.View.{view};
 
 use self::State::{S0, S1, S2, S3, S4};
+use super::party::PartyNumber;
 use super::transaction::tx_of;
 use super::words::{WORDS, party_at, put_party};
 use rules::Party;
@@ -88,11 +89,11 @@ static NEXT: [[Option<State>; 5]; 9] = [
     [None, Some(S1), Some(S2), Some(S3), Some(S4)],
 ];
 
-pub(crate) fn state_of(s: &[u32; WORDS], p: usize) -> State
-    requires { (p < 16) × ((view s.now).count ≤ 32) }
-    ensures { state_number result ≡ state_of (view s.now) p }
+pub(crate) fn state_of(s: &[u32; WORDS], p: PartyNumber) -> State
+    requires { (view s.now).count ≤ 32 }
+    ensures { state_number result ≡ state_of (view s.now) p.index }
 {
-    let q = party_at(s, p);
+    let q = party_at(s, p.index);
     if q.opened != 1 {
         return S0;
     }
@@ -106,9 +107,9 @@ pub(crate) fn state_of(s: &[u32; WORDS], p: usize) -> State
 }
 
 // The next state of party p's call.
-pub(crate) fn state_after(s: &[u32; WORDS], p: usize, call: TxCall) -> Option<State>
-    requires { (p < 16) × ((view s.now).count ≤ 32) }
-    ensures { next_number result ≡ next_of (call_number call) (state_of (view s.now) p) }
+pub(crate) fn state_after(s: &[u32; WORDS], p: PartyNumber, call: TxCall) -> Option<State>
+    requires { (view s.now).count ≤ 32 }
+    ensures { next_number result ≡ next_of (call_number call) (state_of (view s.now) p.index) }
 {
     NEXT[call.row()][state_of(s, p).number()]
 }
@@ -137,11 +138,10 @@ pub(crate) fn in_state(q: Party, s: State) -> Party
 }
 
 // Party p enters a state.
-pub(crate) fn enter(s: &mut [u32; WORDS], p: usize, state: State)
-    requires { p < 16 }
-    ensures { view s.new ≡ entered (view s.old) p (state_number state) }
+pub(crate) fn enter(s: &mut [u32; WORDS], p: PartyNumber, state: State)
+    ensures { view s.new ≡ entered (view s.old) p.index (state_number state) }
 {
-    let q = party_at(s, p);
+    let q = party_at(s, p.index);
     let k = in_state(q, state);
-    put_party(s, p, k);
+    put_party(s, p.index, k);
 }

@@ -6,6 +6,7 @@ ghost use Rattle.monitor.specs.Kinds.{kind_number};
 ghost use Rattle.monitor.specs.Words.{words};
 ghost use Rattle.monitor.specs.View.{view, ruled_by, stepped, code_answer};
 
+use super::party::PartyNumber;
 use super::conversations::{tpdiscon, tprecv, tpsend};
 use super::kinds::Kind;
 use super::replies::{tpcancel, tpgetrply};
@@ -26,9 +27,9 @@ use rules::{Answer, Call, codes};
 
 // Each kind decides by its number.
 #[tactic(auto, using(crate::proofs::Laws::sound_room), unfolding(rules::specs::Step::rule_of, rules::specs::Choice::pick))]
-pub(crate) fn rule(s: &mut [u32; WORDS], p: usize, kind: Kind, a: u32, b: u32, c: u32) -> Told
-    requires { (p < 16) × (sound (view s.old) ≡ true) }
-    ensures { ruled_by result (view s.new) ≡ rule_of (view s.old) p (kind_number kind) a b c }
+pub(crate) fn rule(s: &mut [u32; WORDS], p: PartyNumber, kind: Kind, a: u32, b: u32, c: u32) -> Told
+    requires { sound (view s.old) ≡ true }
+    ensures { ruled_by result (view s.new) ≡ rule_of (view s.old) p.index (kind_number kind) a b c }
 {
     match kind {
         Kind::TxOpen => tx_open(s, p),
@@ -66,9 +67,9 @@ pub(crate) fn advance(s: &mut [u32; WORDS], t: u32)
 }
 
 // What a rule tells, with the caller's T afterwards.
-pub(crate) fn tell(s: &[u32; WORDS], r: Told, p: usize) -> Answer
-    requires { (p < 16) × ((view s.now).count ≤ 32) }
-    ensures { stepped result (view s.now) ≡ answered_to (ruled_by r (view s.now)) p }
+pub(crate) fn tell(s: &[u32; WORDS], r: Told, p: PartyNumber) -> Answer
+    requires { (view s.now).count ≤ 32 }
+    ensures { stepped result (view s.now) ≡ answered_to (ruled_by r (view s.now)) p.index }
 {
     let t = tx_of(s, p);
     Answer {
@@ -103,11 +104,10 @@ pub(crate) fn call_on(s: &mut [u32; WORDS], c: Call) -> Answer
     let Ok(kind) = Kind::try_from(c.kind) else {
         return turn_down(codes::UNKNOWN_KIND);
     };
-    if c.party > 15 {
+    let Ok(p) = PartyNumber::try_from(c.party) else {
         return turn_down(codes::UNKNOWN_PARTY);
-    }
+    };
     advance(s, c.clock);
-    let p = c.party as usize;
     let r = rule(s, p, kind, c.a, c.b, c.c);
     tell(s, r, p)
 }

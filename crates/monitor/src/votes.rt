@@ -6,6 +6,7 @@ ghost use Rattle.monitor.specs.Ending.{EndCode};
 ghost use Rattle.monitor.specs.Words.{words};
 ghost use Rattle.monitor.specs.View.{view, ruled_by};
 
+use super::party::PartyNumber;
 use super::Told;
 use super::links::{accept, coded};
 use super::transaction::is_owner;
@@ -95,9 +96,9 @@ pub(crate) fn commit_code(can: bool, rs: [u32; 4]) -> i64
 }
 
 // Kind 22.
-pub(crate) fn report(s: &mut [u32; WORDS], p: usize, a: u32, b: u32, c: u32) -> Told
-    requires { (p < 16) × ((view s.old).count ≤ 32) }
-    ensures { ruled_by result (view s.new) ≡ report_of (view s.old) p a b c }
+pub(crate) fn report(s: &mut [u32; WORDS], p: PartyNumber, a: u32, b: u32, c: u32) -> Told
+    requires { (view s.old).count ≤ 32 }
+    ensures { ruled_by result (view s.new) ≡ report_of (view s.old) p.index a b c }
 {
     if !is_owner(s, p) {
         return coded(codes::NOT_ALLOWED_NOW);
@@ -105,8 +106,8 @@ pub(crate) fn report(s: &mut [u32; WORDS], p: usize, a: u32, b: u32, c: u32) -> 
     if a > 3 || b > 6 || c > 1 {
         return coded(codes::BAD_REPORT);
     }
-    let mut q = party_at(s, p);
+    let mut q = party_at(s, p.index);
     q.reports[a as usize] = report_number(b, c);
-    put_party(s, p, q);
+    put_party(s, p.index, q);
     accept(0)
 }

@@ -8,7 +8,7 @@ use Rattle.monitor.proofs.conversations.receive_on.Goals as goal
 pub returns-then-not-known : goal.returns-then-not-known
 unfolding receive_on
 returns-then-not-known c =
-    let stranger : let a = c.args in any_end a.p a.l ≡ false = sym c.is_any_end-known.ensures ∙ c.if-not-known.true in
+    let stranger : let a = c.args in any_end a.p.index a.l ≡ false = sym c.is_any_end-known.ensures ∙ c.if-not-known.true in
     (refused c.coded.ensures (pick_false _ _ _ stranger))
 
 pub returns-then-late : goal.returns-then-late
@@ -16,8 +16,8 @@ unfolding receive_on
 returns-then-late c =
     let asks : Ruled → Ruled = λ r. let a = c.args in
     let m = view a.s.now in
-    ask m (any_end a.p a.l) no_such_end (ask m (not (expired m a.l.tx)) timed_out r) in
-    let known : let a = c.args in any_end a.p a.l ≡ true = sym c.is_any_end-known.ensures ∙ c.if-not-known.false in
+    ask m (any_end a.p.index a.l) no_such_end (ask m (not (expired m a.l.tx)) timed_out r) in
+    let known : let a = c.args in any_end a.p.index a.l ≡ true = sym c.is_any_end-known.ensures ∙ c.if-not-known.false in
     let late : (r : Ruled) → asks r ≡ ruled (view c.args.s.now) timed_out = λ r. pick_true _ _ _ known ∙ pick_false _ _ _ (ap not (sym c.is_expired-late.ensures ∙ c.if-late.true)) in
     (refused c.coded-then-late.ensures (late _))
 
@@ -26,10 +26,10 @@ unfolding receive_on
 returns-then-disconnected c =
     let asks : Ruled → Ruled = λ r. let a = c.args in
     let m = view a.s.now in
-    ask m (any_end a.p a.l) no_such_end (ask m (not (expired m a.l.tx)) timed_out r) in
-    let known : let a = c.args in any_end a.p a.l ≡ true = sym c.is_any_end-known.ensures ∙ c.if-not-known.false in
+    ask m (any_end a.p.index a.l) no_such_end (ask m (not (expired m a.l.tx)) timed_out r) in
+    let known : let a = c.args in any_end a.p.index a.l ≡ true = sym c.is_any_end-known.ensures ∙ c.if-not-known.false in
     let timely : (r : Ruled) → asks r ≡ r = λ r. pick_true _ _ _ known ∙ pick_true _ _ _ (ap not (sym c.is_expired-late.ensures ∙ c.if-late.false)) in
-    let hears : Bool = hears_disconnect c.args.p c.args.l in
+    let hears : Bool = hears_disconnect c.args.p.index c.args.l in
     let disconnected : (x r : Ruled) → asks (pick hears x r) ≡ x = λ x r. timely _ ∙ pick_true _ _ _ (sym c.hears_disconnect-disconnected.ensures ∙ c.if-disconnected.true) in
     (c.tell_disconnect.ensures ∙ sym (disconnected _ _))
 
@@ -38,12 +38,12 @@ unfolding receive_on
 returns-then-over c =
     let asks : Ruled → Ruled = λ r. let a = c.args in
     let m = view a.s.now in
-    ask m (any_end a.p a.l) no_such_end (ask m (not (expired m a.l.tx)) timed_out r) in
-    let known : let a = c.args in any_end a.p a.l ≡ true = sym c.is_any_end-known.ensures ∙ c.if-not-known.false in
+    ask m (any_end a.p.index a.l) no_such_end (ask m (not (expired m a.l.tx)) timed_out r) in
+    let known : let a = c.args in any_end a.p.index a.l ≡ true = sym c.is_any_end-known.ensures ∙ c.if-not-known.false in
     let timely : (r : Ruled) → asks r ≡ r = λ r. pick_true _ _ _ known ∙ pick_true _ _ _ (ap not (sym c.is_expired-late.ensures ∙ c.if-late.false)) in
-    let hears : Bool = hears_disconnect c.args.p c.args.l in
+    let hears : Bool = hears_disconnect c.args.p.index c.args.l in
     let talks : (x r : Ruled) → asks (pick hears x r) ≡ r = λ x r. timely _ ∙ pick_false _ _ _ (sym c.hears_disconnect-disconnected.ensures ∙ c.if-disconnected.false) in
-    let returned : Bool = let a = c.args in hears_return a.p a.l in
+    let returned : Bool = let a = c.args in hears_return a.p.index a.l in
     let over : returned ≡ true = sym c.hears_return-over.ensures ∙ c.if-over.true in (
       c.tell_return.ensures ∙ sym (talks _ _ ∙ pick_true _ _ _ over)
     )
@@ -53,12 +53,12 @@ unfolding receive_on
 returns-then-sender c =
     let asks : Ruled → Ruled = λ r. let a = c.args in
     let m = view a.s.now in
-    ask m (any_end a.p a.l) no_such_end (ask m (not (expired m a.l.tx)) timed_out r) in
-    let known : let a = c.args in any_end a.p a.l ≡ true = sym c.is_any_end-known.ensures ∙ c.if-not-known.false in
+    ask m (any_end a.p.index a.l) no_such_end (ask m (not (expired m a.l.tx)) timed_out r) in
+    let known : let a = c.args in any_end a.p.index a.l ≡ true = sym c.is_any_end-known.ensures ∙ c.if-not-known.false in
     let timely : (r : Ruled) → asks r ≡ r = λ r. pick_true _ _ _ known ∙ pick_true _ _ _ (ap not (sym c.is_expired-late.ensures ∙ c.if-late.false)) in
-    let hears : Bool = hears_disconnect c.args.p c.args.l in
+    let hears : Bool = hears_disconnect c.args.p.index c.args.l in
     let talks : (x r : Ruled) → asks (pick hears x r) ≡ r = λ x r. timely _ ∙ pick_false _ _ _ (sym c.hears_disconnect-disconnected.ensures ∙ c.if-disconnected.false) in
-    let returned : Bool = let a = c.args in hears_return a.p a.l in
+    let returned : Bool = let a = c.args in hears_return a.p.index a.l in
     let going : (x y r : Ruled) → asks (pick hears x (pick returned y r)) ≡ r = λ x y r. talks _ _ ∙ pick_false _ _ _ (sym c.hears_return-over.ensures ∙ c.if-over.false) in
     let sends = ap not (sym c.is_sender-sender.ensures ∙ c.if-sender.true) in
     (refused c.coded-then-sender.ensures (going _ _ _ ∙ pick_false _ _ _ sends))
@@ -68,14 +68,14 @@ unfolding receive_on
 returns-then-l-eq0 c =
     let asks : Ruled → Ruled = λ r. let a = c.args in
     let m = view a.s.now in
-    ask m (any_end a.p a.l) no_such_end (ask m (not (expired m a.l.tx)) timed_out r) in
-    let known : let a = c.args in any_end a.p a.l ≡ true = sym c.is_any_end-known.ensures ∙ c.if-not-known.false in
+    ask m (any_end a.p.index a.l) no_such_end (ask m (not (expired m a.l.tx)) timed_out r) in
+    let known : let a = c.args in any_end a.p.index a.l ≡ true = sym c.is_any_end-known.ensures ∙ c.if-not-known.false in
     let timely : (r : Ruled) → asks r ≡ r = λ r. pick_true _ _ _ known ∙ pick_true _ _ _ (ap not (sym c.is_expired-late.ensures ∙ c.if-late.false)) in
-    let hears : Bool = hears_disconnect c.args.p c.args.l in
+    let hears : Bool = hears_disconnect c.args.p.index c.args.l in
     let talks : (x r : Ruled) → asks (pick hears x r) ≡ r = λ x r. timely _ ∙ pick_false _ _ _ (sym c.hears_disconnect-disconnected.ensures ∙ c.if-disconnected.false) in
-    let returned : Bool = let a = c.args in hears_return a.p a.l in
+    let returned : Bool = let a = c.args in hears_return a.p.index a.l in
     let going : (x y r : Ruled) → asks (pick hears x (pick returned y r)) ≡ r = λ x y r. talks _ _ ∙ pick_false _ _ _ (sym c.hears_return-over.ensures ∙ c.if-over.false) in
-    let listens : let a = c.args in not (is_sender a.p a.l) ≡ true = ap not (sym c.is_sender-sender.ensures ∙ c.if-sender.false) in
+    let listens : let a = c.args in not (is_sender a.p.index a.l) ≡ true = ap not (sym c.is_sender-sender.ensures ∙ c.if-sender.false) in
     let empty = le-ltb 0 c.args.l.filled (omega (arith, c.if-l-eq0.true)) in
     let r = going _ _ _ ∙ pick_true _ _ _ listens ∙ pick_false _ _ _ empty in
     (refused c.coded-then-l-eq0.ensures r)
@@ -85,14 +85,14 @@ unfolding receive_on
 returns c =
     let asks : Ruled → Ruled = λ r. let a = c.args in
     let m = view a.s.now in
-    ask m (any_end a.p a.l) no_such_end (ask m (not (expired m a.l.tx)) timed_out r) in
-    let known : let a = c.args in any_end a.p a.l ≡ true = sym c.is_any_end-known.ensures ∙ c.if-not-known.false in
+    ask m (any_end a.p.index a.l) no_such_end (ask m (not (expired m a.l.tx)) timed_out r) in
+    let known : let a = c.args in any_end a.p.index a.l ≡ true = sym c.is_any_end-known.ensures ∙ c.if-not-known.false in
     let timely : (r : Ruled) → asks r ≡ r = λ r. pick_true _ _ _ known ∙ pick_true _ _ _ (ap not (sym c.is_expired-late.ensures ∙ c.if-late.false)) in
-    let hears : Bool = hears_disconnect c.args.p c.args.l in
+    let hears : Bool = hears_disconnect c.args.p.index c.args.l in
     let talks : (x r : Ruled) → asks (pick hears x r) ≡ r = λ x r. timely _ ∙ pick_false _ _ _ (sym c.hears_disconnect-disconnected.ensures ∙ c.if-disconnected.false) in
-    let returned : Bool = let a = c.args in hears_return a.p a.l in
+    let returned : Bool = let a = c.args in hears_return a.p.index a.l in
     let going : (x y r : Ruled) → asks (pick hears x (pick returned y r)) ≡ r = λ x y r. talks _ _ ∙ pick_false _ _ _ (sym c.hears_return-over.ensures ∙ c.if-over.false) in
-    let listens : let a = c.args in not (is_sender a.p a.l) ≡ true = ap not (sym c.is_sender-sender.ensures ∙ c.if-sender.false) in
+    let listens : let a = c.args in not (is_sender a.p.index a.l) ≡ true = ap not (sym c.is_sender-sender.ensures ∙ c.if-sender.false) in
     let unread : ltb 0 c.args.l.filled ≡ true = lt-ltb 0 c.args.l.filled (omega (arith, c.if-l-eq0.false)) in (
       c.receive.ensures
           ∙ sym

@@ -9,13 +9,13 @@ use Rattle.monitor.proofs.conversations.send_on.Goals as goal
 pub returns-then-not-known : goal.returns-then-not-known
 unfolding send_on
 returns-then-not-known c =
-    let stranger : let a = c.args in any_end a.p a.l ≡ false = sym c.is_any_end-known.ensures ∙ c.if-not-known.true in
+    let stranger : let a = c.args in any_end a.p.index a.l ≡ false = sym c.is_any_end-known.ensures ∙ c.if-not-known.true in
     (refused c.coded.ensures (pick_false _ _ _ stranger))
 
 pub returns-then-b-gt1 : goal.returns-then-b-gt1
 unfolding send_on
 returns-then-b-gt1 c =
-    let known : let a = c.args in any_end a.p a.l ≡ true = sym c.is_any_end-known.ensures ∙ c.if-not-known.false in (
+    let known : let a = c.args in any_end a.p.index a.l ≡ true = sym c.is_any_end-known.ensures ∙ c.if-not-known.false in (
       refused c.coded-then-b-gt1.ensures (pick_true _ _ _ known ∙ pick_false _ _ _ (lt-leb _ _ c.if-b-gt1.true))
     )
 
@@ -24,9 +24,9 @@ unfolding send_on
 returns-then-late c =
     let opens : Ruled → Ruled = λ r. let a = c.args in
     let m = view a.s.now in
-    ask m (any_end a.p a.l) no_such_end (ask m (leb a.b 1) bad_argument r) in
+    ask m (any_end a.p.index a.l) no_such_end (ask m (leb a.b 1) bad_argument r) in
     let asks : Ruled → Ruled = λ r. opens (ask (view c.args.s.now) (not (expired (view c.args.s.now) c.args.l.tx)) timed_out r) in
-    let known : let a = c.args in any_end a.p a.l ≡ true = sym c.is_any_end-known.ensures ∙ c.if-not-known.false in
+    let known : let a = c.args in any_end a.p.index a.l ≡ true = sym c.is_any_end-known.ensures ∙ c.if-not-known.false in
     let flagged : (r : Ruled) → opens r ≡ r = λ r. pick_true _ _ _ known ∙ pick_true _ _ _ (le-leb _ _ c.if-b-gt1.false) in
     let late : (r : Ruled) → asks r ≡ ruled (view c.args.s.now) timed_out = λ r. flagged _ ∙ pick_false _ _ _ (ap not (sym c.is_expired-late.ensures ∙ c.if-late.true)) in
     (refused c.coded-then-late.ensures (late _))
@@ -36,12 +36,12 @@ unfolding send_on
 returns-then-disconnected c =
     let opens : Ruled → Ruled = λ r. let a = c.args in
     let m = view a.s.now in
-    ask m (any_end a.p a.l) no_such_end (ask m (leb a.b 1) bad_argument r) in
+    ask m (any_end a.p.index a.l) no_such_end (ask m (leb a.b 1) bad_argument r) in
     let asks : Ruled → Ruled = λ r. opens (ask (view c.args.s.now) (not (expired (view c.args.s.now) c.args.l.tx)) timed_out r) in
-    let known : let a = c.args in any_end a.p a.l ≡ true = sym c.is_any_end-known.ensures ∙ c.if-not-known.false in
+    let known : let a = c.args in any_end a.p.index a.l ≡ true = sym c.is_any_end-known.ensures ∙ c.if-not-known.false in
     let flagged : (r : Ruled) → opens r ≡ r = λ r. pick_true _ _ _ known ∙ pick_true _ _ _ (le-leb _ _ c.if-b-gt1.false) in
     let timely : (r : Ruled) → asks r ≡ r = λ r. flagged _ ∙ pick_true _ _ _ (ap not (sym c.is_expired-late.ensures ∙ c.if-late.false)) in
-    let hears : Bool = hears_disconnect c.args.p c.args.l in
+    let hears : Bool = hears_disconnect c.args.p.index c.args.l in
     let disconnected : (x r : Ruled) → asks (pick hears x r) ≡ x = λ x r. timely _ ∙ pick_true _ _ _ (sym c.hears_disconnect-disconnected.ensures ∙ c.if-disconnected.true) in
     (c.tell_disconnect.ensures ∙ sym (disconnected _ _))
 
@@ -50,14 +50,14 @@ unfolding send_on
 returns-then-failed c =
     let opens : Ruled → Ruled = λ r. let a = c.args in
     let m = view a.s.now in
-    ask m (any_end a.p a.l) no_such_end (ask m (leb a.b 1) bad_argument r) in
+    ask m (any_end a.p.index a.l) no_such_end (ask m (leb a.b 1) bad_argument r) in
     let asks : Ruled → Ruled = λ r. opens (ask (view c.args.s.now) (not (expired (view c.args.s.now) c.args.l.tx)) timed_out r) in
-    let known : let a = c.args in any_end a.p a.l ≡ true = sym c.is_any_end-known.ensures ∙ c.if-not-known.false in
+    let known : let a = c.args in any_end a.p.index a.l ≡ true = sym c.is_any_end-known.ensures ∙ c.if-not-known.false in
     let flagged : (r : Ruled) → opens r ≡ r = λ r. pick_true _ _ _ known ∙ pick_true _ _ _ (le-leb _ _ c.if-b-gt1.false) in
     let timely : (r : Ruled) → asks r ≡ r = λ r. flagged _ ∙ pick_true _ _ _ (ap not (sym c.is_expired-late.ensures ∙ c.if-late.false)) in
-    let hears : Bool = hears_disconnect c.args.p c.args.l in
+    let hears : Bool = hears_disconnect c.args.p.index c.args.l in
     let talks : (x r : Ruled) → asks (pick hears x r) ≡ r = λ x r. timely _ ∙ pick_false _ _ _ (sym c.hears_disconnect-disconnected.ensures ∙ c.if-disconnected.false) in
-    let fails : Bool = let a = c.args in hears_return a.p a.l && not (eqb a.l.outcome tpev_svc_succ) in
+    let fails : Bool = let a = c.args in hears_return a.p.index a.l && not (eqb a.l.outcome tpev_svc_succ) in
     let failed : fails ≡ true = rw c.hears_return-over.ensures at c.if-failed.true in (
       c.tell_return.ensures ∙ sym (talks _ _ ∙ pick_true _ _ _ failed)
     )
@@ -67,14 +67,14 @@ unfolding send_on
 returns-then-not-free c =
     let opens : Ruled → Ruled = λ r. let a = c.args in
     let m = view a.s.now in
-    ask m (any_end a.p a.l) no_such_end (ask m (leb a.b 1) bad_argument r) in
+    ask m (any_end a.p.index a.l) no_such_end (ask m (leb a.b 1) bad_argument r) in
     let asks : Ruled → Ruled = λ r. opens (ask (view c.args.s.now) (not (expired (view c.args.s.now) c.args.l.tx)) timed_out r) in
-    let known : let a = c.args in any_end a.p a.l ≡ true = sym c.is_any_end-known.ensures ∙ c.if-not-known.false in
+    let known : let a = c.args in any_end a.p.index a.l ≡ true = sym c.is_any_end-known.ensures ∙ c.if-not-known.false in
     let flagged : (r : Ruled) → opens r ≡ r = λ r. pick_true _ _ _ known ∙ pick_true _ _ _ (le-leb _ _ c.if-b-gt1.false) in
     let timely : (r : Ruled) → asks r ≡ r = λ r. flagged _ ∙ pick_true _ _ _ (ap not (sym c.is_expired-late.ensures ∙ c.if-late.false)) in
-    let hears : Bool = hears_disconnect c.args.p c.args.l in
+    let hears : Bool = hears_disconnect c.args.p.index c.args.l in
     let talks : (x r : Ruled) → asks (pick hears x r) ≡ r = λ x r. timely _ ∙ pick_false _ _ _ (sym c.hears_disconnect-disconnected.ensures ∙ c.if-disconnected.false) in
-    let fails : Bool = let a = c.args in hears_return a.p a.l && not (eqb a.l.outcome tpev_svc_succ) in
+    let fails : Bool = let a = c.args in hears_return a.p.index a.l && not (eqb a.l.outcome tpev_svc_succ) in
     let going : fails ≡ false = rw c.hears_return-over.ensures at c.if-failed.false in
     let bound = rw c.is_sender-sender.ensures at c.if-not-free.true in
     (refused c.coded-then-not-free.ensures (talks _ _ ∙ pick_false _ _ _ going ∙ pick_false _ _ _ bound))
@@ -84,14 +84,14 @@ unfolding send_on
 returns-then-l-ge-UNREAD c =
     let opens : Ruled → Ruled = λ r. let a = c.args in
     let m = view a.s.now in
-    ask m (any_end a.p a.l) no_such_end (ask m (leb a.b 1) bad_argument r) in
+    ask m (any_end a.p.index a.l) no_such_end (ask m (leb a.b 1) bad_argument r) in
     let asks : Ruled → Ruled = λ r. opens (ask (view c.args.s.now) (not (expired (view c.args.s.now) c.args.l.tx)) timed_out r) in
-    let known : let a = c.args in any_end a.p a.l ≡ true = sym c.is_any_end-known.ensures ∙ c.if-not-known.false in
+    let known : let a = c.args in any_end a.p.index a.l ≡ true = sym c.is_any_end-known.ensures ∙ c.if-not-known.false in
     let flagged : (r : Ruled) → opens r ≡ r = λ r. pick_true _ _ _ known ∙ pick_true _ _ _ (le-leb _ _ c.if-b-gt1.false) in
     let timely : (r : Ruled) → asks r ≡ r = λ r. flagged _ ∙ pick_true _ _ _ (ap not (sym c.is_expired-late.ensures ∙ c.if-late.false)) in
-    let hears : Bool = hears_disconnect c.args.p c.args.l in
+    let hears : Bool = hears_disconnect c.args.p.index c.args.l in
     let talks : (x r : Ruled) → asks (pick hears x r) ≡ r = λ x r. timely _ ∙ pick_false _ _ _ (sym c.hears_disconnect-disconnected.ensures ∙ c.if-disconnected.false) in
-    let fails : Bool = let a = c.args in hears_return a.p a.l && not (eqb a.l.outcome tpev_svc_succ) in
+    let fails : Bool = let a = c.args in hears_return a.p.index a.l && not (eqb a.l.outcome tpev_svc_succ) in
     let going : fails ≡ false = rw c.hears_return-over.ensures at c.if-failed.false in
     let free = rw c.is_sender-sender.ensures at c.if-not-free.false in
     let full = le-ltb _ _ c.if-l-ge-UNREAD.true in
@@ -106,14 +106,14 @@ unfolding send_on
 returns c =
     let opens : Ruled → Ruled = λ r. let a = c.args in
     let m = view a.s.now in
-    ask m (any_end a.p a.l) no_such_end (ask m (leb a.b 1) bad_argument r) in
+    ask m (any_end a.p.index a.l) no_such_end (ask m (leb a.b 1) bad_argument r) in
     let asks : Ruled → Ruled = λ r. opens (ask (view c.args.s.now) (not (expired (view c.args.s.now) c.args.l.tx)) timed_out r) in
-    let known : let a = c.args in any_end a.p a.l ≡ true = sym c.is_any_end-known.ensures ∙ c.if-not-known.false in
+    let known : let a = c.args in any_end a.p.index a.l ≡ true = sym c.is_any_end-known.ensures ∙ c.if-not-known.false in
     let flagged : (r : Ruled) → opens r ≡ r = λ r. pick_true _ _ _ known ∙ pick_true _ _ _ (le-leb _ _ c.if-b-gt1.false) in
     let timely : (r : Ruled) → asks r ≡ r = λ r. flagged _ ∙ pick_true _ _ _ (ap not (sym c.is_expired-late.ensures ∙ c.if-late.false)) in
-    let hears : Bool = hears_disconnect c.args.p c.args.l in
+    let hears : Bool = hears_disconnect c.args.p.index c.args.l in
     let talks : (x r : Ruled) → asks (pick hears x r) ≡ r = λ x r. timely _ ∙ pick_false _ _ _ (sym c.hears_disconnect-disconnected.ensures ∙ c.if-disconnected.false) in
-    let fails : Bool = let a = c.args in hears_return a.p a.l && not (eqb a.l.outcome tpev_svc_succ) in
+    let fails : Bool = let a = c.args in hears_return a.p.index a.l && not (eqb a.l.outcome tpev_svc_succ) in
     let going : fails ≡ false = rw c.hears_return-over.ensures at c.if-failed.false in
     let free = rw c.is_sender-sender.ensures at c.if-not-free.false in
     let fits = lt-ltb _ _ c.if-l-ge-UNREAD.false in

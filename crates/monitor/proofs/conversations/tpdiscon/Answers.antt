@@ -8,7 +8,7 @@ use Rattle.monitor.proofs.conversations.tpdiscon.Goals as goal
 pub returns-in_default : goal.returns-in_default
 unfolding disconnect_of
 returns-in_default c =
-    let none = no_originator c.args.s.now c.args.a c.requires c.find_link.ensures c.in_default.is c.args.p in
+    let none = no_originator c.args.s.now c.args.a c.requires c.find_link.ensures c.in_default.is c.args.p.index in
     (refused c.coded.ensures (pick_false _ _ _ none))
 
 pub link_at-l-requires : goal.link_at-l-requires
@@ -19,7 +19,7 @@ unfolding disconnect_of
 returns-then-not-own c =
     let link : let a = c.args in c.link_at-l.result ≡ link_of (view a.s.now) a.a = c.link_at-l.ensures ∙ stands c.args.s.now c.args.a c.requires c.find_link.ensures c.in-Some.is in
     let answer = sym c.is_originator_end-own.ensures ∙ c.if-not-own.true in
-    let own = ap (originator_end c.args.p) (sym link) ∙ answer in
+    let own = ap (originator_end c.args.p.index) (sym link) ∙ answer in
     (refused c.coded-then-not-own.ensures (pick_false _ _ _ own))
 
 pub disconnect_at-requires : goal.disconnect_at-requires
@@ -38,6 +38,6 @@ returns c =
     let l = link in
     let n = c.set_rollback_only.ensures ∙ ap (λ (k : Link). rollback_only_tx (view a.s.now) k.tx) l in
     let answer = sym c.is_originator_end-own.ensures ∙ c.if-not-own.false in
-    let own = ap (originator_end a.p) (sym l) ∙ answer in
+    let own = ap (originator_end a.p.index) (sym l) ∙ answer in
     let k = c.disconnect_at.ensures ∙ ap₂ (λ (x : Monitor) (y : Link). disconnected_at x a.a y) n l in
     (ap₂ ruled_by c.accept.ensures k ∙ sym (pick_true _ _ _ own))

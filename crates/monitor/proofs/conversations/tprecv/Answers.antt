@@ -11,8 +11,8 @@ refuses m p a e = pick_false _ _ _ e
 pub returns-in_default : goal.returns-in_default
 returns-in_default c =
     let a = c.args in
-    let none = no_end a.s.now a.a c.requires c.find_link.ensures c.in_default.is a.p in
-    (refused c.coded.ensures (refuses (view a.s.now) a.p a.a none))
+    let none = no_end a.s.now a.a c.requires c.find_link.ensures c.in_default.is a.p.index in
+    (refused c.coded.ensures (refuses (view a.s.now) a.p.index a.a none))
 
 pub link_at-l-requires : goal.link_at-l-requires
 link_at-l-requires c = omega (arith, c.requires, (found_some _ _ c.find_link.ensures c.in-Some.is).1)
@@ -27,4 +27,4 @@ returns c =
     let l = c.link_at-l in
     let e = l.ensures ∙ stands a.s.now a.a c.requires c.find_link.ensures c.in-Some.is in
     let m = view a.s.now in
-    (◌∙◌ {b = receive_on m a.p a.a l.result} c.receive_on.ensures (ap (receive_on m a.p a.a) e))
+    (◌∙◌ {b = receive_on m a.p.index a.a l.result} c.receive_on.ensures (ap (receive_on m a.p.index a.a) e))

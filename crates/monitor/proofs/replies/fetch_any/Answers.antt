@@ -25,7 +25,7 @@ first_request_end-requires c = search (rules, sound_room)
 pub returns-in_default : goal.returns-in_default
 unfolding fetch_any
 returns-in_default c =
-    let none = none_passes c.args.s.now (request_end c.args.p) (sound_room _ c.requires) c.first_request_end.ensures c.in_default.is in
+    let none = none_passes c.args.s.now (request_end c.args.p.index) (sound_room _ c.requires) c.first_request_end.ensures c.in_default.is in
     (refused c.coded.ensures (pick_false _ _ _ none))
 
 pub has_expired_end-late-requires : goal.has_expired_end-late-requires
@@ -34,9 +34,9 @@ has_expired_end-late-requires c = (sound_room _ c.requires, (found_some _ _ c.fi
 pub returns-then-late : goal.returns-then-late
 unfolding fetch_any
 returns-then-late c =
-    let some_end : let a = c.args in let m = view a.s.now in fetch_any m a.p ≡ ask m (not c.has_expired_end-late.result) timed_out (rest m a.p) = let m = view c.args.s.now in
-    let one = one_passes c.args.s.now (request_end c.args.p) (sound_room _ c.requires) c.first_request_end.ensures c.in-Some.is in
-    pick_true _ _ _ one ∙ ap (λ (late : Bool). ask m (not late) timed_out (rest m c.args.p)) (sym c.has_expired_end-late.ensures) in
+    let some_end : let a = c.args in let m = view a.s.now in fetch_any m a.p.index ≡ ask m (not c.has_expired_end-late.result) timed_out (rest m a.p.index) = let m = view c.args.s.now in
+    let one = one_passes c.args.s.now (request_end c.args.p.index) (sound_room _ c.requires) c.first_request_end.ensures c.in-Some.is in
+    pick_true _ _ _ one ∙ ap (λ (late : Bool). ask m (not late) timed_out (rest m c.args.p.index)) (sym c.has_expired_end-late.ensures) in
     (refused c.coded-then-late.ensures (some_end ∙ pick_false _ _ _ (ap not c.if-late.true)))
 
 pub next_reply-requires : goal.next_reply-requires
@@ -45,10 +45,10 @@ next_reply-requires c = (sound_room _ c.requires, (found_some _ _ c.first_reques
 pub returns-in_default-next_reply : goal.returns-in_default-next_reply
 unfolding fetch_any
 returns-in_default-next_reply c =
-    let some_end : let a = c.args in let m = view a.s.now in fetch_any m a.p ≡ ask m (not c.has_expired_end-late.result) timed_out (rest m a.p) = let m = view c.args.s.now in
-    let one = one_passes c.args.s.now (request_end c.args.p) (sound_room _ c.requires) c.first_request_end.ensures c.in-Some.is in
-    pick_true _ _ _ one ∙ ap (λ (late : Bool). ask m (not late) timed_out (rest m c.args.p)) (sym c.has_expired_end-late.ensures) in
-    let none-late : let a = c.args in let m = view a.s.now in fetch_any m a.p ≡ rest m a.p = some_end ∙ pick_true _ _ _ (ap not c.if-late.false) in
+    let some_end : let a = c.args in let m = view a.s.now in fetch_any m a.p.index ≡ ask m (not c.has_expired_end-late.result) timed_out (rest m a.p.index) = let m = view c.args.s.now in
+    let one = one_passes c.args.s.now (request_end c.args.p.index) (sound_room _ c.requires) c.first_request_end.ensures c.in-Some.is in
+    pick_true _ _ _ one ∙ ap (λ (late : Bool). ask m (not late) timed_out (rest m c.args.p.index)) (sym c.has_expired_end-late.ensures) in
+    let none-late : let a = c.args in let m = view a.s.now in fetch_any m a.p.index ≡ rest m a.p.index = some_end ∙ pick_true _ _ _ (ap not c.if-late.false) in
     let m = view c.args.s.now in
     let none = le-ltb _ m.count (found_none _ _ c.next_reply.ensures c.in_default-next_reply.is) in
     (refused c.coded-in_default-next_reply.ensures (none-late ∙ pick_false _ _ _ none))
@@ -64,16 +64,16 @@ fetch-requires c =
     let h = next.1 in
     let l = c.link_at-l.ensures in
     let room = sound_room _ c.requires in
-    let returned = found-returned xs c.args.p room next.0 h l in
+    let returned = found-returned xs c.args.p.index room next.0 h l in
     (room, read_first xs c.requires _ h l, read_ended xs c.requires _ h l returned)
 
 pub returns : goal.returns
 unfolding fetch_any
 returns c =
-    let some_end : let a = c.args in let m = view a.s.now in fetch_any m a.p ≡ ask m (not c.has_expired_end-late.result) timed_out (rest m a.p) = let m = view c.args.s.now in
-    let one = one_passes c.args.s.now (request_end c.args.p) (sound_room _ c.requires) c.first_request_end.ensures c.in-Some.is in
-    pick_true _ _ _ one ∙ ap (λ (late : Bool). ask m (not late) timed_out (rest m c.args.p)) (sym c.has_expired_end-late.ensures) in
-    let none-late : let a = c.args in let m = view a.s.now in fetch_any m a.p ≡ rest m a.p = some_end ∙ pick_true _ _ _ (ap not c.if-late.false) in
+    let some_end : let a = c.args in let m = view a.s.now in fetch_any m a.p.index ≡ ask m (not c.has_expired_end-late.result) timed_out (rest m a.p.index) = let m = view c.args.s.now in
+    let one = one_passes c.args.s.now (request_end c.args.p.index) (sound_room _ c.requires) c.first_request_end.ensures c.in-Some.is in
+    pick_true _ _ _ one ∙ ap (λ (late : Bool). ask m (not late) timed_out (rest m c.args.p.index)) (sym c.has_expired_end-late.ensures) in
+    let none-late : let a = c.args in let m = view a.s.now in fetch_any m a.p.index ≡ rest m a.p.index = some_end ∙ pick_true _ _ _ (ap not c.if-late.false) in
     let next = found_some _ _ c.next_reply.ensures c.in-Some-next_reply.is in
     let m = view c.args.s.now in
     let h = next.1 in

@@ -17,7 +17,7 @@ find_link-requires c = search (rules, sound_room)
 pub returns-in_default : goal.returns-in_default
 unfolding fetch_one
 returns-in_default c =
-    let none = no_request_end c.args.s.now c.args.a (sound_room _ c.requires) c.find_link.ensures c.in_default.is c.args.p in
+    let none = no_request_end c.args.s.now c.args.a (sound_room _ c.requires) c.find_link.ensures c.in_default.is c.args.p.index in
     (refused c.coded.ensures (pick_false _ _ _ none))
 
 pub link_at-l-requires : goal.link_at-l-requires
@@ -27,16 +27,16 @@ link_at-l-requires c =
 pub returns-then-not-own : goal.returns-then-not-own
 unfolding fetch_one
 returns-then-not-own c =
-    let found : let a = c.args in let m = view a.s.now in fetch_one m a.p a.a ≡ ask m c.is_request_end-own.result no_such_end (rest m a.a c.link_at-l.result) = let a = c.args in
-    on_request_end a.s.now a.a (sound_room _ c.requires) c.find_link.ensures a.p (rest (view a.s.now) a.a) c.in-Some.is c.link_at-l.ensures c.is_request_end-own.ensures in
+    let found : let a = c.args in let m = view a.s.now in fetch_one m a.p.index a.a ≡ ask m c.is_request_end-own.result no_such_end (rest m a.a c.link_at-l.result) = let a = c.args in
+    on_request_end a.s.now a.a (sound_room _ c.requires) c.find_link.ensures a.p.index (rest (view a.s.now) a.a) c.in-Some.is c.link_at-l.ensures c.is_request_end-own.ensures in
     (refused c.coded-then-not-own.ensures (found ∙ pick_false _ _ _ (c.if-not-own.true)))
 
 pub returns-then-late : goal.returns-then-late
 unfolding fetch_one
 returns-then-late c =
-    let found : let a = c.args in let m = view a.s.now in fetch_one m a.p a.a ≡ ask m c.is_request_end-own.result no_such_end (rest m a.a c.link_at-l.result) = let a = c.args in
-    on_request_end a.s.now a.a (sound_room _ c.requires) c.find_link.ensures a.p (rest (view a.s.now) a.a) c.in-Some.is c.link_at-l.ensures c.is_request_end-own.ensures in
-    let own : let a = c.args in let m = view a.s.now in fetch_one m a.p a.a ≡ timely m a.a c.link_at-l.result c.is_expired-late.result = let a = c.args in
+    let found : let a = c.args in let m = view a.s.now in fetch_one m a.p.index a.a ≡ ask m c.is_request_end-own.result no_such_end (rest m a.a c.link_at-l.result) = let a = c.args in
+    on_request_end a.s.now a.a (sound_room _ c.requires) c.find_link.ensures a.p.index (rest (view a.s.now) a.a) c.in-Some.is c.link_at-l.ensures c.is_request_end-own.ensures in
+    let own : let a = c.args in let m = view a.s.now in fetch_one m a.p.index a.a ≡ timely m a.a c.link_at-l.result c.is_expired-late.result = let a = c.args in
     found
     ∙ pick_true _ _ _ (c.if-not-own.false)
     ∙ ap (timely (view a.s.now) a.a c.link_at-l.result) (sym c.is_expired-late.ensures) in
@@ -45,9 +45,9 @@ returns-then-late c =
 pub returns-then-l-ne2 : goal.returns-then-l-ne2
 unfolding fetch_one
 returns-then-l-ne2 c =
-    let found : let a = c.args in let m = view a.s.now in fetch_one m a.p a.a ≡ ask m c.is_request_end-own.result no_such_end (rest m a.a c.link_at-l.result) = let a = c.args in
-    on_request_end a.s.now a.a (sound_room _ c.requires) c.find_link.ensures a.p (rest (view a.s.now) a.a) c.in-Some.is c.link_at-l.ensures c.is_request_end-own.ensures in
-    let own : let a = c.args in let m = view a.s.now in fetch_one m a.p a.a ≡ timely m a.a c.link_at-l.result c.is_expired-late.result = let a = c.args in
+    let found : let a = c.args in let m = view a.s.now in fetch_one m a.p.index a.a ≡ ask m c.is_request_end-own.result no_such_end (rest m a.a c.link_at-l.result) = let a = c.args in
+    on_request_end a.s.now a.a (sound_room _ c.requires) c.find_link.ensures a.p.index (rest (view a.s.now) a.a) c.in-Some.is c.link_at-l.ensures c.is_request_end-own.ensures in
+    let own : let a = c.args in let m = view a.s.now in fetch_one m a.p.index a.a ≡ timely m a.a c.link_at-l.result c.is_expired-late.result = let a = c.args in
     found
     ∙ pick_true _ _ _ (c.if-not-own.false)
     ∙ ap (timely (view a.s.now) a.a c.link_at-l.result) (sym c.is_expired-late.ensures) in
@@ -63,9 +63,9 @@ fetch-requires c =
 pub returns : goal.returns
 unfolding fetch_one
 returns c =
-    let found : let a = c.args in let m = view a.s.now in fetch_one m a.p a.a ≡ ask m c.is_request_end-own.result no_such_end (rest m a.a c.link_at-l.result) = let a = c.args in
-    on_request_end a.s.now a.a (sound_room _ c.requires) c.find_link.ensures a.p (rest (view a.s.now) a.a) c.in-Some.is c.link_at-l.ensures c.is_request_end-own.ensures in
-    let own : let a = c.args in let m = view a.s.now in fetch_one m a.p a.a ≡ timely m a.a c.link_at-l.result c.is_expired-late.result = let a = c.args in
+    let found : let a = c.args in let m = view a.s.now in fetch_one m a.p.index a.a ≡ ask m c.is_request_end-own.result no_such_end (rest m a.a c.link_at-l.result) = let a = c.args in
+    on_request_end a.s.now a.a (sound_room _ c.requires) c.find_link.ensures a.p.index (rest (view a.s.now) a.a) c.in-Some.is c.link_at-l.ensures c.is_request_end-own.ensures in
+    let own : let a = c.args in let m = view a.s.now in fetch_one m a.p.index a.a ≡ timely m a.a c.link_at-l.result c.is_expired-late.result = let a = c.args in
     found
     ∙ pick_true _ _ _ (c.if-not-own.false)
     ∙ ap (timely (view a.s.now) a.a c.link_at-l.result) (sym c.is_expired-late.ensures) in

@@ -11,5 +11,5 @@ no_end m p l e = ap (λ (own : Bool). own && expired m l.tx) e
 pub returns : goal.returns
 returns c =
     let a = c.args in
-    let found = c.first_link.ensures (expired_end (view a.s.now) a.p) (let low = first_past _ (request_end a.p) (no_end (view a.s.now) a.p) (live (view a.s.now)) c.requires.1 in omega arith) (λ i b h t. search rules) in
+    let found = c.first_link.ensures (expired_end (view a.s.now) a.p.index) (let low = first_past _ (request_end a.p.index) (no_end (view a.s.now) a.p.index) (live (view a.s.now)) c.requires.1 in omega arith) (λ i b h t. search rules) in
     c.is_some.ensures ∙ link_there a.s.now _ c.requires.0 found

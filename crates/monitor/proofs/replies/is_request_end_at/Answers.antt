@@ -6,4 +6,4 @@ pub returns : goal.returns
 unfolding request_end own_end same
 returns c =
     let a = c.args in
-    λ i. eqb (c.kind_at-kind.ensures i) 0 && (eqb (c.attached_at-attached.ensures i) 1 && eqb (c.originator_at-originator.ensures i) a.p)
+    λ i. eqb (c.kind_at-kind.ensures i) 0 && (eqb (c.attached_at-attached.ensures i) 1 && eqb (c.originator_at-originator.ensures i) a.p.index)

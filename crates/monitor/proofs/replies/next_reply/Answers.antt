@@ -11,5 +11,5 @@ no_end p l e = ap (λ (own : Bool). own && is_returned l) e
 pub returns : goal.returns
 returns c =
     let a = c.args in
-    let found = c.first_link.ensures (replied_end a.p) (let low = first_past _ (request_end a.p) (no_end a.p) (live (view a.s.now)) c.requires.1 in omega arith) (λ i b h t. search rules) in
+    let found = c.first_link.ensures (replied_end a.p.index) (let low = first_past _ (request_end a.p.index) (no_end a.p.index) (live (view a.s.now)) c.requires.1 in omega arith) (λ i b h t. search rules) in
     found

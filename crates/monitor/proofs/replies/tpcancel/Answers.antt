@@ -11,7 +11,7 @@ rest m a l = ask m (eqb l.tx 0) in_transaction (valued (cancelled m a l) 0)
 pub returns-in_default : goal.returns-in_default
 unfolding cancel_of
 returns-in_default c =
-    let none = no_request_end c.args.s.now c.args.a c.requires c.find_link.ensures c.in_default.is c.args.p in
+    let none = no_request_end c.args.s.now c.args.a c.requires c.find_link.ensures c.in_default.is c.args.p.index in
     (refused c.coded.ensures (pick_false _ _ _ none))
 
 pub link_at-l-requires : goal.link_at-l-requires
@@ -23,23 +23,23 @@ cancel-requires c = let found = found_some _ _ c.find_link.ensures c.in-Some.is 
 pub returns-then-not-own : goal.returns-then-not-own
 unfolding cancel_of
 returns-then-not-own c =
-    let found : let a = c.args in let m = view a.s.now in cancel_of m a.p a.a ≡ ask m c.is_request_end-own.result no_such_end (rest m a.a c.link_at-l.result) = let a = c.args in
-    on_request_end a.s.now a.a c.requires c.find_link.ensures a.p (rest (view a.s.now) a.a) c.in-Some.is c.link_at-l.ensures c.is_request_end-own.ensures in
+    let found : let a = c.args in let m = view a.s.now in cancel_of m a.p.index a.a ≡ ask m c.is_request_end-own.result no_such_end (rest m a.a c.link_at-l.result) = let a = c.args in
+    on_request_end a.s.now a.a c.requires c.find_link.ensures a.p.index (rest (view a.s.now) a.a) c.in-Some.is c.link_at-l.ensures c.is_request_end-own.ensures in
     (refused c.coded-then-not-own.ensures (found ∙ pick_false _ _ _ (c.if-not-own.true)))
 
 pub returns-then-l-ne0 : goal.returns-then-l-ne0
 unfolding cancel_of
 returns-then-l-ne0 c =
-    let found : let a = c.args in let m = view a.s.now in cancel_of m a.p a.a ≡ ask m c.is_request_end-own.result no_such_end (rest m a.a c.link_at-l.result) = let a = c.args in
-    on_request_end a.s.now a.a c.requires c.find_link.ensures a.p (rest (view a.s.now) a.a) c.in-Some.is c.link_at-l.ensures c.is_request_end-own.ensures in
+    let found : let a = c.args in let m = view a.s.now in cancel_of m a.p.index a.a ≡ ask m c.is_request_end-own.result no_such_end (rest m a.a c.link_at-l.result) = let a = c.args in
+    on_request_end a.s.now a.a c.requires c.find_link.ensures a.p.index (rest (view a.s.now) a.a) c.in-Some.is c.link_at-l.ensures c.is_request_end-own.ensures in
     let own = found ∙ pick_true _ _ _ (c.if-not-own.false) in
     (refused c.coded-then-l-ne0.ensures (own ∙ pick_false _ _ _ (ne_eqb _ _ c.if-l-ne0.true)))
 
 pub returns : goal.returns
 unfolding cancel_of
 returns c =
-    let found : let a = c.args in let m = view a.s.now in cancel_of m a.p a.a ≡ ask m c.is_request_end-own.result no_such_end (rest m a.a c.link_at-l.result) = let a = c.args in
-    on_request_end a.s.now a.a c.requires c.find_link.ensures a.p (rest (view a.s.now) a.a) c.in-Some.is c.link_at-l.ensures c.is_request_end-own.ensures in
+    let found : let a = c.args in let m = view a.s.now in cancel_of m a.p.index a.a ≡ ask m c.is_request_end-own.result no_such_end (rest m a.a c.link_at-l.result) = let a = c.args in
+    on_request_end a.s.now a.a c.requires c.find_link.ensures a.p.index (rest (view a.s.now) a.a) c.in-Some.is c.link_at-l.ensures c.is_request_end-own.ensures in
     let own = found ∙ pick_true _ _ _ (c.if-not-own.false) in
     let none = pick_true _ _ _ (eq-eqb _ _ c.if-l-ne0.false) in
     (ap₂ ruled_by c.accept.ensures c.cancel.ensures ∙ sym (own ∙ none))

@@ -6,14 +6,14 @@ use Rattle.monitor.proofs.requests.ask_link.Goals as goal
 pub returns-then-not-permitted : goal.returns-then-not-permitted
 unfolding ask_link pick may_request
 returns-then-not-permitted c =
-    let permitted : let a = c.args in may_request a.a (party (view a.s.now) a.p) ≡ c.in_set-permitted.result = sym (c.in_set-permitted.ensures ∙ ap (λ (s : ℕ). in_set s c.args.a) c.mayrequest_at-set.ensures) in
+    let permitted : let a = c.args in may_request a.a (party (view a.s.now) a.p.index) ≡ c.in_set-permitted.result = sym (c.in_set-permitted.ensures ∙ ap (λ (s : ℕ). in_set s c.args.a) c.mayrequest_at-set.ensures) in
     rw (permitted ∙ c.if-not-permitted.true)
 
 pub returns-then-ended : goal.returns-then-ended
 unfolding ask_link pick may_request
 returns-then-ended c =
-    let permitted : let a = c.args in may_request a.a (party (view a.s.now) a.p) ≡ c.in_set-permitted.result = sym (c.in_set-permitted.ensures ∙ ap (λ (s : ℕ). in_set s c.args.a) c.mayrequest_at-set.ensures) in
-    let may : let a = c.args in may_request a.a (party (view a.s.now) a.p) ≡ true = permitted ∙ c.if-not-permitted.false in
+    let permitted : let a = c.args in may_request a.a (party (view a.s.now) a.p.index) ≡ c.in_set-permitted.result = sym (c.in_set-permitted.ensures ∙ ap (λ (s : ℕ). in_set s c.args.a) c.mayrequest_at-set.ensures) in
+    let may : let a = c.args in may_request a.a (party (view a.s.now) a.p.index) ≡ true = permitted ∙ c.if-not-permitted.false in
     let ends : let a = c.args in ended (view a.s.now) a.t ≡ not (eqb a.t 0) && c.is_none.result = let a = c.args in ended_by a.s.now a.t c.live_owner-o.ensures _ c.is_none.ensures in
     rw (may, ends ∙ c.if-ended.true)
 
@@ -23,8 +23,8 @@ is_late_at-late-requires c = owner_among c.args.s.now c.args.t c.live_owner-o.en
 pub returns-then-late : goal.returns-then-late
 unfolding ask_link pick may_request
 returns-then-late c =
-    let permitted : let a = c.args in may_request a.a (party (view a.s.now) a.p) ≡ c.in_set-permitted.result = sym (c.in_set-permitted.ensures ∙ ap (λ (s : ℕ). in_set s c.args.a) c.mayrequest_at-set.ensures) in
-    let may : let a = c.args in may_request a.a (party (view a.s.now) a.p) ≡ true = permitted ∙ c.if-not-permitted.false in
+    let permitted : let a = c.args in may_request a.a (party (view a.s.now) a.p.index) ≡ c.in_set-permitted.result = sym (c.in_set-permitted.ensures ∙ ap (λ (s : ℕ). in_set s c.args.a) c.mayrequest_at-set.ensures) in
+    let may : let a = c.args in may_request a.a (party (view a.s.now) a.p.index) ≡ true = permitted ∙ c.if-not-permitted.false in
     let ends : let a = c.args in ended (view a.s.now) a.t ≡ not (eqb a.t 0) && c.is_none.result = let a = c.args in ended_by a.s.now a.t c.live_owner-o.ensures _ c.is_none.ensures in
     let expires : let a = c.args in expired (view a.s.now) a.t ≡ c.is_late_at-late.result = let a = c.args in
     expired_by a.s.now a.t c.live_owner-o.ensures ∙ sym c.is_late_at-late.ensures in
@@ -33,8 +33,8 @@ returns-then-late c =
 pub returns-then-not-some : goal.returns-then-not-some
 unfolding ask_link pick may_request
 returns-then-not-some c =
-    let permitted : let a = c.args in may_request a.a (party (view a.s.now) a.p) ≡ c.in_set-permitted.result = sym (c.in_set-permitted.ensures ∙ ap (λ (s : ℕ). in_set s c.args.a) c.mayrequest_at-set.ensures) in
-    let may : let a = c.args in may_request a.a (party (view a.s.now) a.p) ≡ true = permitted ∙ c.if-not-permitted.false in
+    let permitted : let a = c.args in may_request a.a (party (view a.s.now) a.p.index) ≡ c.in_set-permitted.result = sym (c.in_set-permitted.ensures ∙ ap (λ (s : ℕ). in_set s c.args.a) c.mayrequest_at-set.ensures) in
+    let may : let a = c.args in may_request a.a (party (view a.s.now) a.p.index) ≡ true = permitted ∙ c.if-not-permitted.false in
     let ends : let a = c.args in ended (view a.s.now) a.t ≡ not (eqb a.t 0) && c.is_none.result = let a = c.args in ended_by a.s.now a.t c.live_owner-o.ensures _ c.is_none.ensures in
     let expires : let a = c.args in expired (view a.s.now) a.t ≡ c.is_late_at-late.result = let a = c.args in
     expired_by a.s.now a.t c.live_owner-o.ensures ∙ sym c.is_late_at-late.ensures in
@@ -44,8 +44,8 @@ returns-then-not-some c =
 pub returns-then-not-left : goal.returns-then-not-left
 unfolding ask_link pick may_request
 returns-then-not-left c =
-    let permitted : let a = c.args in may_request a.a (party (view a.s.now) a.p) ≡ c.in_set-permitted.result = sym (c.in_set-permitted.ensures ∙ ap (λ (s : ℕ). in_set s c.args.a) c.mayrequest_at-set.ensures) in
-    let may : let a = c.args in may_request a.a (party (view a.s.now) a.p) ≡ true = permitted ∙ c.if-not-permitted.false in
+    let permitted : let a = c.args in may_request a.a (party (view a.s.now) a.p.index) ≡ c.in_set-permitted.result = sym (c.in_set-permitted.ensures ∙ ap (λ (s : ℕ). in_set s c.args.a) c.mayrequest_at-set.ensures) in
+    let may : let a = c.args in may_request a.a (party (view a.s.now) a.p.index) ≡ true = permitted ∙ c.if-not-permitted.false in
     let ends : let a = c.args in ended (view a.s.now) a.t ≡ not (eqb a.t 0) && c.is_none.result = let a = c.args in ended_by a.s.now a.t c.live_owner-o.ensures _ c.is_none.ensures in
     let expires : let a = c.args in expired (view a.s.now) a.t ≡ c.is_late_at-late.result = let a = c.args in
     expired_by a.s.now a.t c.live_owner-o.ensures ∙ sym c.is_late_at-late.ensures in
@@ -56,8 +56,8 @@ returns-then-not-left c =
 pub returns : goal.returns
 unfolding ask_link pick may_request
 returns c =
-    let permitted : let a = c.args in may_request a.a (party (view a.s.now) a.p) ≡ c.in_set-permitted.result = sym (c.in_set-permitted.ensures ∙ ap (λ (s : ℕ). in_set s c.args.a) c.mayrequest_at-set.ensures) in
-    let may : let a = c.args in may_request a.a (party (view a.s.now) a.p) ≡ true = permitted ∙ c.if-not-permitted.false in
+    let permitted : let a = c.args in may_request a.a (party (view a.s.now) a.p.index) ≡ c.in_set-permitted.result = sym (c.in_set-permitted.ensures ∙ ap (λ (s : ℕ). in_set s c.args.a) c.mayrequest_at-set.ensures) in
+    let may : let a = c.args in may_request a.a (party (view a.s.now) a.p.index) ≡ true = permitted ∙ c.if-not-permitted.false in
     let ends : let a = c.args in ended (view a.s.now) a.t ≡ not (eqb a.t 0) && c.is_none.result = let a = c.args in ended_by a.s.now a.t c.live_owner-o.ensures _ c.is_none.ensures in
     let expires : let a = c.args in expired (view a.s.now) a.t ≡ c.is_late_at-late.result = let a = c.args in
     expired_by a.s.now a.t c.live_owner-o.ensures ∙ sym c.is_late_at-late.ensures in

@@ -17,18 +17,18 @@ returns-in_default c =
     (refused c.coded-in_default.ensures (pick_true _ _ _ idle ∙ pick_false _ _ _ none))
 
 pub link_at-l-requires : goal.link_at-l-requires
-link_at-l-requires c = omega (arith, c.requires.1, (found_some _ _ c.next_waiting.ensures c.in-Some.is).1)
+link_at-l-requires c = omega (arith, c.requires, (found_some _ _ c.next_waiting.ensures c.in-Some.is).1)
 
 pub dispatch_at-requires : goal.dispatch_at-requires
-dispatch_at-requires c = (c.requires.0, omega (arith, c.requires.1, (found_some _ _ c.next_waiting.ensures c.in-Some.is).1))
+dispatch_at-requires c = (omega (arith, c.requires, (found_some _ _ c.next_waiting.ensures c.in-Some.is).1))
 
 pub returns : goal.returns
 unfolding dispatch_of
 returns c =
     let m = view c.args.s.now in
-    let p = c.args.p in
+    let p = c.args.p.index in
     let k = found_some _ _ c.next_waiting.ensures c.in-Some.is in
-    let l = c.link_at-l.ensures ∙ sym (live_in c.args.s.now _ c.requires.1 k.1) in
+    let l = c.link_at-l.ensures ∙ sym (live_in c.args.s.now _ c.requires k.1) in
     let idle = sym c.is_idle-idle.ensures ∙ c.if-not-idle.false in
     let some = ap (λ (i : ℕ). ltb i m.count) (sym k.0) ∙ lt-ltb _ _ k.1 in
     let r = ap (dispatched m p _) l ∙ ap (λ (i : ℕ). dispatched m p i (live_at m i)) k.0 in

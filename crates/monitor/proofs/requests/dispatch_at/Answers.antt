@@ -11,7 +11,7 @@ returns c =
     let m = view a.s.now in
     let after =
     c.put_link.ensures
-    ∙ ap (λ (k : Monitor). replaced k a.i (working a.l a.p)) c.put_party.ensures
-    ∙ ap (λ (q : Party). replaced (with_party m a.p (serving q a.l.number)) a.i (working a.l a.p)) c.party_at-q.ensures in
+    ∙ ap (λ (k : Monitor). replaced k a.i (working a.l a.p.index)) c.put_party.ensures
+    ∙ ap (λ (q : Party). replaced (with_party m a.p.index (serving q a.l.number)) a.i (working a.l a.p.index)) c.party_at-q.ensures in
     let event = c.dispatch_event-event.ensures in
     (λ z. record { monitor = after z; code = tp_accepted; value = a.l.number; event = event z; token = a.l.first; service = a.l.service })

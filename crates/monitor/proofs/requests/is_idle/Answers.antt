@@ -30,21 +30,21 @@ module _ (m : Monitor) (p : ℕ) (q : Party) (e : q ≡ party m p) where
 pub returns-then-q-ne1 : goal.returns-then-q-ne1
 returns-then-q-ne1 c =
     let a = c.args in
-    sym (not_opened (view a.s.now) a.p _ c.party_at-q.ensures c.if-q-ne1.true)
+    sym (not_opened (view a.s.now) a.p.index _ c.party_at-q.ensures c.if-q-ne1.true)
 
 pub returns-then-q-ne0 : goal.returns-then-q-ne0
 returns-then-q-ne0 c =
     let a = c.args in
-    sym (serving (view a.s.now) a.p _ c.party_at-q.ensures c.if-q-ne1.false c.if-q-ne0.true)
+    sym (serving (view a.s.now) a.p.index _ c.party_at-q.ensures c.if-q-ne1.false c.if-q-ne0.true)
 
 pub returns-then-q-ne0-2 : goal.returns-then-q-ne0-2
 returns-then-q-ne0-2 c =
     let a = c.args in
     let q = c.party_at-q.ensures in
-    sym (owning (view a.s.now) a.p _ q c.if-q-ne1.false c.if-q-ne0.false c.if-q-ne0-2.true)
+    sym (owning (view a.s.now) a.p.index _ q c.if-q-ne1.false c.if-q-ne0.false c.if-q-ne0-2.true)
 
 pub returns : goal.returns
 returns c =
     let a = c.args in
     let q = c.party_at-q.ensures in
-    ap not c.has_own_end-ends.ensures ∙ sym (free (view a.s.now) a.p _ q c.if-q-ne1.false c.if-q-ne0.false c.if-q-ne0-2.false)
+    ap not c.has_own_end-ends.ensures ∙ sym (free (view a.s.now) a.p.index _ q c.if-q-ne1.false c.if-q-ne0.false c.if-q-ne0-2.false)

@@ -11,4 +11,4 @@ pub returns : goal.returns
 returns c =
     let a = c.args in
     let d = ap (λ (n : ℕ). n + 1) c.last_link-last.ensures in
-    (d, opened (view a.s.now) a.kind a.p a.attached a.a a.t a.c a.sender c.add_link.ensures c.new_link-l.ensures d)
+    (d, opened (view a.s.now) a.kind a.p.index a.attached a.a a.t a.c a.sender c.add_link.ensures c.new_link-l.ensures d)

@@ -28,17 +28,17 @@ pub returns-then-code-ne-TP_ACCEPTED : goal.returns-then-code-ne-TP_ACCEPTED
 unfolding connect_of
 returns-then-code-ne-TP_ACCEPTED c =
     let good : let a = c.args in is_service a.a && connect_flags a.b ≡ c.is_service-service.result && c.connect_flags-flags.result = sym (ap₂ ◌&&◌ c.is_service-service.ensures c.connect_flags-flags.ensures) in
-    let answer : let a = c.args in let m = view a.s.now in Asked m a.p (link_tx m a.p a.b) a.a c.ask_link-code.result = let r = c.ask_link-code in
+    let answer : let a = c.args in let m = view a.s.now in Asked m a.p.index (link_tx m a.p.index a.b) a.a c.ask_link-code.result = let r = c.ask_link-code in
     let z : to_z w64 (of_z w64 r.result) ≡ r.result = search rules in
     asked _ _ _ r.ensures c.link_tx-t.ensures z in
     let a = c.args in
     let m = view a.s.now in
     let passes = good ∙ c.if-not-good.false in
-    (stopped m _ _ _ _ (connected m a.p a.a a.b a.c) passes answer c.if-code-ne-TP_ACCEPTED.true c.coded-then-code-ne-TP_ACCEPTED.ensures)
+    (stopped m _ _ _ _ (connected m a.p.index a.a a.b a.c) passes answer c.if-code-ne-TP_ACCEPTED.true c.coded-then-code-ne-TP_ACCEPTED.ensures)
 
 pub open_link-d-requires : goal.open_link-d-requires
 open_link-d-requires c =
-    let answer : let a = c.args in let m = view a.s.now in Asked m a.p (link_tx m a.p a.b) a.a c.ask_link-code.result = let r = c.ask_link-code in
+    let answer : let a = c.args in let m = view a.s.now in Asked m a.p.index (link_tx m a.p.index a.b) a.a c.ask_link-code.result = let r = c.ask_link-code in
     let z : to_z w64 (of_z w64 r.result) ≡ r.result = search rules in
     asked _ _ _ r.ensures c.link_tx-t.ensures z in
     let h = all_pass _ _ _ _ answer c.if-code-ne-TP_ACCEPTED.false in search rules
@@ -47,7 +47,7 @@ pub returns : goal.returns
 unfolding connect_of
 returns c =
     let good : let a = c.args in is_service a.a && connect_flags a.b ≡ c.is_service-service.result && c.connect_flags-flags.result = sym (ap₂ ◌&&◌ c.is_service-service.ensures c.connect_flags-flags.ensures) in
-    let answer : let a = c.args in let m = view a.s.now in Asked m a.p (link_tx m a.p a.b) a.a c.ask_link-code.result = let r = c.ask_link-code in
+    let answer : let a = c.args in let m = view a.s.now in Asked m a.p.index (link_tx m a.p.index a.b) a.a c.ask_link-code.result = let r = c.ask_link-code in
     let z : to_z w64 (of_z w64 r.result) ≡ r.result = search rules in
     asked _ _ _ r.ensures c.link_tx-t.ensures z in
     let a = c.args in
@@ -55,6 +55,6 @@ returns c =
     let o = c.open_link-d.ensures in
     let passes = good ∙ c.if-not-good.false in
     let t = c.link_tx-t.ensures in (
-      makes m a.p a.a a.b a.c o.1 t c.first_sender-sender.ensures o.0 c.accept.ensures
-          ∙ opened m a.p (link_tx m a.p a.b) a.a _ (connected m a.p a.a a.b a.c) passes answer c.if-code-ne-TP_ACCEPTED.false
+      makes m a.p.index a.a a.b a.c o.1 t c.first_sender-sender.ensures o.0 c.accept.ensures
+          ∙ opened m a.p.index (link_tx m a.p.index a.b) a.a _ (connected m a.p.index a.a a.b a.c) passes answer c.if-code-ne-TP_ACCEPTED.false
     )

@@ -10,24 +10,24 @@ use Rattle.monitor.proofs.returns.close_own.Goals as goal
 
 pub mark_own-requires : goal.mark_own-requires
 mark_own-requires c =
-    (c.requires, c.unwrap_or-from.ensures ∙ link_or_past c.args.s.now (own_end c.args.p) c.requires c.first_own.ensures c.count.ensures)
+    (c.requires, c.unwrap_or-from.ensures ∙ link_or_past c.args.s.now (own_end c.args.p.index) c.requires c.first_own.ensures c.count.ensures)
 
 pub sweep-requires-clause-room : goal.sweep-requires-clause-room
 sweep-requires-clause-room c = count_kept c.mark_own.ensures c.requires
 
 pub sweep-requires-clause-inside : goal.sweep-requires-clause-inside
 sweep-requires-clause-inside c =
-    let first = c.unwrap_or-from.ensures ∙ link_or_past c.args.s.now (own_end c.args.p) c.requires c.first_own.ensures c.count.ensures in
+    let first = c.unwrap_or-from.ensures ∙ link_or_past c.args.s.now (own_end c.args.p.index) c.requires c.first_own.ensures c.count.ensures in
     let e = c.mark_own.ensures in
-    first_inside c.mark_own.new.s (own_end c.args.p) (count_kept e c.requires) (first ∙ ap (λ (m : Monitor). first_of (own_end c.args.p) (live m)) (sym e))
+    first_inside c.mark_own.new.s (own_end c.args.p.index) (count_kept e c.requires) (first ∙ ap (λ (m : Monitor). first_of (own_end c.args.p.index) (live m)) (sym e))
 
 pub returns : goal.returns
 unfolding close_own
 returns c =
     let a = c.args in
-    let first = c.unwrap_or-from.ensures ∙ link_or_past c.args.s.now (own_end c.args.p) c.requires c.first_own.ensures c.count.ensures in
+    let first = c.unwrap_or-from.ensures ∙ link_or_past c.args.s.now (own_end c.args.p.index) c.requires c.first_own.ensures c.count.ensures in
     let e = c.mark_own.ensures in
-    let kept = kept_before (close_end a.p) (own_end a.p) (stays a.p) (live (view a.s.now)) first in
-    let kept_now = subst (λ (m : Monitor). keeps_before (close_end a.p) m c.unwrap_or-from.result) (sym e) kept in
-    let swept = c.sweep.ensures.swept (close_end a.p) kept_now (λ l r t. search rules) in
-    (swept ∙ ap (λ (m : Monitor). rebuilt m (collect (close_end a.p) (live m))) e, c.sweep.ensures.few)
+    let kept = kept_before (close_end a.p.index) (own_end a.p.index) (stays a.p.index) (live (view a.s.now)) first in
+    let kept_now = subst (λ (m : Monitor). keeps_before (close_end a.p.index) m c.unwrap_or-from.result) (sym e) kept in
+    let swept = c.sweep.ensures.swept (close_end a.p.index) kept_now (λ l r t. search rules) in
+    (swept ∙ ap (λ (m : Monitor). rebuilt m (collect (close_end a.p.index) (live m))) e, c.sweep.ensures.few)

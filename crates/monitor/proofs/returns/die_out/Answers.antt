@@ -16,7 +16,7 @@ module _ (m : Monitor) (p d : ℕ) (e : d ≡ (party m p).served) where
 pub returns-then-d-eq0 : goal.returns-then-d-eq0
 returns-then-d-eq0 c =
     let d = c.served_at-d in
-    let n = ap (λ (m : Monitor). end_own m c.args.p) c.close_own.ensures.0 in
+    let n = ap (λ (m : Monitor). end_own m c.args.p.index) c.close_own.ensures.0 in
     (c.end_own.ensures.0 ∙ n ∙ idle _ _ _ d.ensures c.if-d-eq0.true)
 
 pub returns : goal.returns

@@ -5,12 +5,12 @@ use Rattle.monitor.proofs.returns.end_own.Goals as goal
 pub returns-then-t-eq0 : goal.returns-then-t-eq0
 unfolding end_own
 returns-then-t-eq0 c =
-    (sym (pick_true _ _ _ (eq-eqb _ _ (sym c.owned_at-t.ensures ∙ c.if-t-eq0.true))), c.requires.1)
+    (sym (pick_true _ _ _ (eq-eqb _ _ (sym c.owned_at-t.ensures ∙ c.if-t-eq0.true))), c.requires)
 
 pub end_tx-requires : goal.end_tx-requires
 end_tx-requires c =
     let first = c.first_of_tx-from.ensures ∙ ap (λ (t : ℕ). first_of (of_tx t) (live (view c.args.s.now))) c.owned_at-t.ensures in
-    (c.requires.0, c.requires.1, first)
+    (c.requires, first)
 
 pub returns : goal.returns
 unfolding end_own

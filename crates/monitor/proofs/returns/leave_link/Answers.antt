@@ -29,8 +29,8 @@ returns c =
     let k = c.unread_after-k in
     let n = changed_of m a.d i.result i.ensures k.result in
     let m₁ = c.change_at.ensures.0 ∙ n ∙ ap (changed m a.d) (k.ensures ∙ ap (unread_after a.o) e) in
-    let m₂ = c.close_own.ensures.0 ∙ ap (λ (n : Monitor). close_own n a.p) m₁ in
-    let m₃ = c.end_own.ensures.0 ∙ ap (λ (n : Monitor). end_own n a.p) m₂ in
+    let m₂ = c.close_own.ensures.0 ∙ ap (λ (n : Monitor). close_own n a.p.index) m₁ in
+    let m₃ = c.end_own.ensures.0 ∙ ap (λ (n : Monitor). end_own n a.p.index) m₂ in
     let m₄ = c.set_served_rollback_only.ensures ∙ ap₂ (λ (x : Link) (n : Monitor). rollback_only_served a.o x.tx n) e m₃ in
-    let m₅ = c.serve_none.ensures ∙ ap (λ (n : Monitor). serves_none n a.p) m₄ in
+    let m₅ = c.serve_none.ensures ∙ ap (λ (n : Monitor). serves_none n a.p.index) m₄ in
     (c.hand_back.ensures ∙ ap (λ (n : Monitor). hand_back n a.d a.o a.e) m₅)

@@ -4,7 +4,7 @@ use Rattle.monitor.proofs.Closing.{mark_start, marks, unmarked, all_marked}
 use Rattle.monitor.proofs.returns.mark_own.Goals as goal
 
 pub loop-i-init : goal.loop-i-init
-loop-i-init c = mark_start c.args.p c.args.s.now c.requires.0 c.requires.1
+loop-i-init c = mark_start c.args.p.index c.args.s.now c.requires.0 c.requires.1
 
 pub loop-i-preserved-then-not-own : goal.loop-i-preserved-then-not-own
 loop-i-preserved-then-not-own c =

@@ -43,7 +43,7 @@ returns-then-l-ne0 c =
 
 pub returns-then-free : goal.returns-then-free
 returns-then-free c =
-    let settled : let a = c.args in outcome_of (view a.s.now) a.p a.a a.c a.l ≡ pick (is_server_free a.l) (plain_outcome a.a) (pick (eqb a.a tp_fail && eqb a.c 0) tpev_svc_fail tpev_svc_err) = let ends = c.has_own_end-ends.ensures in
+    let settled : let a = c.args in outcome_of (view a.s.now) a.p.index a.a a.c a.l ≡ pick (is_server_free a.l) (plain_outcome a.a) (pick (eqb a.a tp_fail && eqb a.c 0) tpev_svc_fail tpev_svc_err) = let ends = c.has_own_end-ends.ensures in
     let owned = c.owned_at-owned.ensures in
     by-sender _ _ _ _ _ _ _ ends owned c.if-open.false c.if-l-ne1.false c.if-l-ne0.false in
     let free = sym c.is_server_free-free.ensures ∙ c.if-free.true in
@@ -51,7 +51,7 @@ returns-then-free c =
 
 pub returns-then-failing : goal.returns-then-failing
 returns-then-failing c =
-    let settled : let a = c.args in outcome_of (view a.s.now) a.p a.a a.c a.l ≡ pick (is_server_free a.l) (plain_outcome a.a) (pick (eqb a.a tp_fail && eqb a.c 0) tpev_svc_fail tpev_svc_err) = let ends = c.has_own_end-ends.ensures in
+    let settled : let a = c.args in outcome_of (view a.s.now) a.p.index a.a a.c a.l ≡ pick (is_server_free a.l) (plain_outcome a.a) (pick (eqb a.a tp_fail && eqb a.c 0) tpev_svc_fail tpev_svc_err) = let ends = c.has_own_end-ends.ensures in
     let owned = c.owned_at-owned.ensures in
     by-sender _ _ _ _ _ _ _ ends owned c.if-open.false c.if-l-ne1.false c.if-l-ne0.false in
     let free = sym c.is_server_free-free.ensures ∙ c.if-free.false in
@@ -59,7 +59,7 @@ returns-then-failing c =
 
 pub returns : goal.returns
 returns c =
-    let settled : let a = c.args in outcome_of (view a.s.now) a.p a.a a.c a.l ≡ pick (is_server_free a.l) (plain_outcome a.a) (pick (eqb a.a tp_fail && eqb a.c 0) tpev_svc_fail tpev_svc_err) = let ends = c.has_own_end-ends.ensures in
+    let settled : let a = c.args in outcome_of (view a.s.now) a.p.index a.a a.c a.l ≡ pick (is_server_free a.l) (plain_outcome a.a) (pick (eqb a.a tp_fail && eqb a.c 0) tpev_svc_fail tpev_svc_err) = let ends = c.has_own_end-ends.ensures in
     let owned = c.owned_at-owned.ensures in
     by-sender _ _ _ _ _ _ _ ends owned c.if-open.false c.if-l-ne1.false c.if-l-ne0.false in
     let free = sym c.is_server_free-free.ensures ∙ c.if-free.false in

@@ -7,4 +7,4 @@ pub returns : goal.returns
 unfolding serves_none
 returns c =
     let a = c.args in
-    (c.put_party.ensures ∙ ap (λ (q : Party). with_party (view a.s.now) a.p (serving q 0)) c.party_at-q.ensures)
+    (c.put_party.ensures ∙ ap (λ (q : Party). with_party (view a.s.now) a.p.index (serving q 0)) c.party_at-q.ensures)

@@ -36,4 +36,4 @@ returns c =
     let e = l.ensures ∙ live_of m d.result i.result i.ensures ∙ ap (link_of m) d.ensures in
     let good = c.if-not-good.false in
     let r = c.return_with.ensures in
-    (returns-well m a.p a.a a.c l.result _ _ (λ h. c.if-d-eq0.false (d.ensures ∙ h)) good e c.outcome_of-o.ensures r)
+    (returns-well m a.p.index a.a a.c l.result _ _ (λ h. c.if-d-eq0.false (d.ensures ∙ h)) good e c.outcome_of-o.ensures r)

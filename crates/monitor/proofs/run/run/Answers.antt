@@ -50,4 +50,4 @@ returns c =
     let q : drop (v.i * 6) v.out ≡ drop (a.n * 6) a.out.now = v.invariant.2 ∙ ap (λ (j : ℕ). drop (j * 6) a.out.now) i in (
       sym (ran_none (a.n - v.i) m (drop (v.i * 6) a.calls.now) z) ∙ v.invariant.3,
       sym (take-append-drop (v.i * 6) v.out) ∙ ap (λ (r : List ℤ). r ++ drop (v.i * 6) v.out) p ∙ ap (λ (r : List ℤ). k ++ r) q,
-      v.invariant.4)
+    )

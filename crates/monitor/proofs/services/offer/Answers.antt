@@ -9,5 +9,5 @@ returns c =
     let a = c.args in
     let put = c.put_party.ensures in
     let told = c.accept.ensures ∙ ap told_value c.service_count-v.ensures in
-    let n = put ∙ ap (λ (q : Party). with_party (view a.s.now) a.p (offering q a.set)) c.party_at-q.ensures in
+    let n = put ∙ ap (λ (q : Party). with_party (view a.s.now) a.p.index (offering q a.set)) c.party_at-q.ensures in
     (ap₂ ruled_by told n)

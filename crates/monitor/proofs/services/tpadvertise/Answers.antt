@@ -26,38 +26,38 @@ returns-then-a-gt64 c = (refused c.coded-then-a-gt64.ensures (pick_false _ _ _ (
 pub returns-then-not-permitted : goal.returns-then-not-permitted
 unfolding advertise_of may_advertise
 returns-then-not-permitted c =
-    let asked : let a = c.args in let m = view a.s.now in advertise_of m a.p a.a ≡ right m a.p a.a c.party_at-q.result c.in_set-permitted.result = let a = c.args in
+    let asked : let a = c.args in let m = view a.s.now in advertise_of m a.p.index a.a ≡ right m a.p.index a.a c.party_at-q.result c.in_set-permitted.result = let a = c.args in
     let m = view a.s.now in
     let q = c.party_at-q in
-    of_service m a.p a.a (λ (x : Party). right m a.p a.a x (may_advertise a.a x)) c.if-a-lt1.false c.if-a-gt64.false q.ensures
-    ∙ ap (right m a.p a.a q.result) (sym c.in_set-permitted.ensures) in
+    of_service m a.p.index a.a (λ (x : Party). right m a.p.index a.a x (may_advertise a.a x)) c.if-a-lt1.false c.if-a-gt64.false q.ensures
+    ∙ ap (right m a.p.index a.a q.result) (sym c.in_set-permitted.ensures) in
     (refused c.coded-then-not-permitted.ensures (asked ∙ pick_false _ _ _ (c.if-not-permitted.true)))
 
 pub returns-then-not-may : goal.returns-then-not-may
 unfolding advertise_of may_advertise
 returns-then-not-may c =
-    let asked : let a = c.args in let m = view a.s.now in advertise_of m a.p a.a ≡ right m a.p a.a c.party_at-q.result c.in_set-permitted.result = let a = c.args in
+    let asked : let a = c.args in let m = view a.s.now in advertise_of m a.p.index a.a ≡ right m a.p.index a.a c.party_at-q.result c.in_set-permitted.result = let a = c.args in
     let m = view a.s.now in
     let q = c.party_at-q in
-    of_service m a.p a.a (λ (x : Party). right m a.p a.a x (may_advertise a.a x)) c.if-a-lt1.false c.if-a-gt64.false q.ensures
-    ∙ ap (right m a.p a.a q.result) (sym c.in_set-permitted.ensures) in
-    let permitted : let a = c.args in let m = view a.s.now in advertise_of m a.p a.a ≡ room m a.p a.a c.party_at-q.result c.is_offering-has.result c.service_count-some.result = let a = c.args in
+    of_service m a.p.index a.a (λ (x : Party). right m a.p.index a.a x (may_advertise a.a x)) c.if-a-lt1.false c.if-a-gt64.false q.ensures
+    ∙ ap (right m a.p.index a.a q.result) (sym c.in_set-permitted.ensures) in
+    let permitted : let a = c.args in let m = view a.s.now in advertise_of m a.p.index a.a ≡ room m a.p.index a.a c.party_at-q.result c.is_offering-has.result c.service_count-some.result = let a = c.args in
     let m = view a.s.now in
     asked ∙ pick_true _ _ _ (c.if-not-permitted.false)
-    ∙ sym (ap₂ (room m a.p a.a c.party_at-q.result) c.is_offering-has.ensures c.service_count-some.ensures) in
+    ∙ sym (ap₂ (room m a.p.index a.a c.party_at-q.result) c.is_offering-has.ensures c.service_count-some.ensures) in
     (refused c.coded-then-not-may.ensures (permitted ∙ pick_false _ _ _ (c.if-not-may.true)))
 
 pub returns : goal.returns
 unfolding advertise_of may_advertise
 returns c =
-    let asked : let a = c.args in let m = view a.s.now in advertise_of m a.p a.a ≡ right m a.p a.a c.party_at-q.result c.in_set-permitted.result = let a = c.args in
+    let asked : let a = c.args in let m = view a.s.now in advertise_of m a.p.index a.a ≡ right m a.p.index a.a c.party_at-q.result c.in_set-permitted.result = let a = c.args in
     let m = view a.s.now in
     let q = c.party_at-q in
-    of_service m a.p a.a (λ (x : Party). right m a.p a.a x (may_advertise a.a x)) c.if-a-lt1.false c.if-a-gt64.false q.ensures
-    ∙ ap (right m a.p a.a q.result) (sym c.in_set-permitted.ensures) in
-    let permitted : let a = c.args in let m = view a.s.now in advertise_of m a.p a.a ≡ room m a.p a.a c.party_at-q.result c.is_offering-has.result c.service_count-some.result = let a = c.args in
+    of_service m a.p.index a.a (λ (x : Party). right m a.p.index a.a x (may_advertise a.a x)) c.if-a-lt1.false c.if-a-gt64.false q.ensures
+    ∙ ap (right m a.p.index a.a q.result) (sym c.in_set-permitted.ensures) in
+    let permitted : let a = c.args in let m = view a.s.now in advertise_of m a.p.index a.a ≡ room m a.p.index a.a c.party_at-q.result c.is_offering-has.result c.service_count-some.result = let a = c.args in
     let m = view a.s.now in
     asked ∙ pick_true _ _ _ (c.if-not-permitted.false)
-    ∙ sym (ap₂ (room m a.p a.a c.party_at-q.result) c.is_offering-has.ensures c.service_count-some.ensures) in
+    ∙ sym (ap₂ (room m a.p.index a.a c.party_at-q.result) c.is_offering-has.ensures c.service_count-some.ensures) in
     let may = pick_true _ _ _ (c.if-not-may.false) in
     (c.offer.ensures ∙ ap (offers_now _ _) c.with_service-set.ensures ∙ sym (permitted ∙ may))

@@ -21,11 +21,11 @@ returns-then-a-gt64 c = (refused c.coded-then-a-gt64.ensures (pick_false _ _ _ (
 pub returns-then-not-has : goal.returns-then-not-has
 unfolding unadvertise_of
 returns-then-not-has c =
-    let asked : let a = c.args in let m = view a.s.now in unadvertise_of m a.p a.a ≡ rest m a.p a.a c.party_at-q.result c.is_offering-has.result = let a = c.args in
+    let asked : let a = c.args in let m = view a.s.now in unadvertise_of m a.p.index a.a ≡ rest m a.p.index a.a c.party_at-q.result c.is_offering-has.result = let a = c.args in
     let m = view a.s.now in
     let q = c.party_at-q in
-    of_service m a.p a.a (λ q. rest m a.p a.a q (offers a.a q)) c.if-a-lt1.false c.if-a-gt64.false q.ensures
-    ∙ sym (ap (rest m a.p a.a q.result) c.is_offering-has.ensures) in
+    of_service m a.p.index a.a (λ q. rest m a.p.index a.a q (offers a.a q)) c.if-a-lt1.false c.if-a-gt64.false q.ensures
+    ∙ sym (ap (rest m a.p.index a.a q.result) c.is_offering-has.ensures) in
     (refused c.coded-then-not-has.ensures (asked ∙ pick_false _ _ _ (c.if-not-has.true)))
 
 pub without_service-set-requires : goal.without_service-set-requires
@@ -37,10 +37,10 @@ without_service-set-requires c =
 pub returns : goal.returns
 unfolding unadvertise_of
 returns c =
-    let asked : let a = c.args in let m = view a.s.now in unadvertise_of m a.p a.a ≡ rest m a.p a.a c.party_at-q.result c.is_offering-has.result = let a = c.args in
+    let asked : let a = c.args in let m = view a.s.now in unadvertise_of m a.p.index a.a ≡ rest m a.p.index a.a c.party_at-q.result c.is_offering-has.result = let a = c.args in
     let m = view a.s.now in
     let q = c.party_at-q in
-    of_service m a.p a.a (λ q. rest m a.p a.a q (offers a.a q)) c.if-a-lt1.false c.if-a-gt64.false q.ensures
-    ∙ sym (ap (rest m a.p a.a q.result) c.is_offering-has.ensures) in
+    of_service m a.p.index a.a (λ q. rest m a.p.index a.a q (offers a.a q)) c.if-a-lt1.false c.if-a-gt64.false q.ensures
+    ∙ sym (ap (rest m a.p.index a.a q.result) c.is_offering-has.ensures) in
     let has = pick_true _ _ _ (c.if-not-has.false) in
     (c.offer.ensures ∙ ap (offers_now _ _) c.without_service-set.ensures ∙ sym (asked ∙ has))

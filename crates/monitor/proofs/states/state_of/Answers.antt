@@ -19,24 +19,24 @@ pub returns-then-q-ne1 : goal.returns-then-q-ne1
 unfolding state_of
 returns-then-q-ne1 c =
     let a = c.args in
-    sym (pick_false _ _ _ (ne_eqb _ _ c.if-q-ne1.true)) ∙ ap (λ (q : Party). state_by q (tx_of (view a.s.now) a.p)) c.party_at-q.ensures
+    sym (pick_false _ _ _ (ne_eqb _ _ c.if-q-ne1.true)) ∙ ap (λ (q : Party). state_by q (tx_of (view a.s.now) a.p.index)) c.party_at-q.ensures
 
 pub returns-in-true-false : goal.returns-in-true-false
 returns-in-true-false c =
     let h = c.in-true-false in
-    sym (pick_true _ _ _ (eq-eqb _ _ h.is-0) ∙ pick_false _ _ _ (ne_eqb _ _ h.is-1)) ∙ opened (view c.args.s.now) c.args.p c.party_at-q.ensures c.tx_of-t.ensures c.if-q-ne1.false
+    sym (pick_true _ _ _ (eq-eqb _ _ h.is-0) ∙ pick_false _ _ _ (ne_eqb _ _ h.is-1)) ∙ opened (view c.args.s.now) c.args.p.index c.party_at-q.ensures c.tx_of-t.ensures c.if-q-ne1.false
 
 pub returns-in-true-true : goal.returns-in-true-true
 returns-in-true-true c =
     let h = c.in-true-true in
-    sym (pick_true _ _ _ (eq-eqb _ _ h.is-0) ∙ pick_true _ _ _ (eq-eqb _ _ h.is-1)) ∙ opened (view c.args.s.now) c.args.p c.party_at-q.ensures c.tx_of-t.ensures c.if-q-ne1.false
+    sym (pick_true _ _ _ (eq-eqb _ _ h.is-0) ∙ pick_true _ _ _ (eq-eqb _ _ h.is-1)) ∙ opened (view c.args.s.now) c.args.p.index c.party_at-q.ensures c.tx_of-t.ensures c.if-q-ne1.false
 
 pub returns-in-false-false : goal.returns-in-false-false
 returns-in-false-false c =
     let h = c.in-false-false in
-    sym (pick_false _ _ _ (ne_eqb _ _ h.is-0) ∙ pick_false _ _ _ (ne_eqb _ _ h.is-1)) ∙ opened (view c.args.s.now) c.args.p c.party_at-q.ensures c.tx_of-t.ensures c.if-q-ne1.false
+    sym (pick_false _ _ _ (ne_eqb _ _ h.is-0) ∙ pick_false _ _ _ (ne_eqb _ _ h.is-1)) ∙ opened (view c.args.s.now) c.args.p.index c.party_at-q.ensures c.tx_of-t.ensures c.if-q-ne1.false
 
 pub returns-in-false-true : goal.returns-in-false-true
 returns-in-false-true c =
     let h = c.in-false-true in
-    sym (pick_false _ _ _ (ne_eqb _ _ h.is-0) ∙ pick_true _ _ _ (eq-eqb _ _ h.is-1)) ∙ opened (view c.args.s.now) c.args.p c.party_at-q.ensures c.tx_of-t.ensures c.if-q-ne1.false
+    sym (pick_false _ _ _ (ne_eqb _ _ h.is-0) ∙ pick_true _ _ _ (eq-eqb _ _ h.is-1)) ∙ opened (view c.args.s.now) c.args.p.index c.party_at-q.ensures c.tx_of-t.ensures c.if-q-ne1.false

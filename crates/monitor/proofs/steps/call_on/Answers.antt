@@ -11,30 +11,24 @@ returns-in_default c =
     let m = view c.args.s.now in
     (ap (λ (r : Answer). stepped r m) c.turn_down.ensures ∙ sym (pick_false _ _ _ c.in_default.ensures), c.requires)
 
-pub returns-then-c-gt15 : goal.returns-then-c-gt15
+pub returns-in_default-try_from : goal.returns-in_default-try_from
 unfolding call_of turned_down
-returns-then-c-gt15 c =
-    let m = view c.args.s.now in (
-      ap (λ (r : Answer). stepped r m) c.turn_down-then-c-gt15.ensures
-          ∙ sym (pick_true _ _ _ c.in-Ok.ensures.1 ∙ pick_false _ _ _ (lt-leb _ _ c.if-c-gt15.true)),
-      c.requires)
+returns-in_default-try_from c =
+    let m = view c.args.s.now in
+    let stranger = lt-leb _ _ c.in_default-try_from.ensures in
+    (ap (λ (r : Answer). stepped r m) c.turn_down-in_default-try_from.ensures ∙ sym (pick_true _ _ _ c.in-Ok.ensures.1 ∙ pick_false _ _ _ stranger), c.requires)
 
 pub rule-r-requires : goal.rule-r-requires
-rule-r-requires c =
-    let v = c.advance.ensures in
-    (omega (arith, c.if-c-gt15.false), clock_sound c.args.s.now c.args.c v c.requires)
+rule-r-requires c = clock_sound c.args.s.now c.args.c c.advance.ensures c.requires
 
 pub tell-requires : goal.tell-requires
 tell-requires c =
-    let a = c.args in
-    let near = c.if-c-gt15.false in
-    let moved = c.advance.ensures in
-    (omega (arith, near), rule_room a.s.now a.c c.in-Ok.ensures.1 near _ moved _ c.in-Ok.ensures.0 _ c.rule-r.ensures c.requires)
+    let p = c.in-Ok-try_from in
+    rule_room c.args.s.now c.args.c c.in-Ok.ensures.1 _ p.ensures p.p.known _ c.advance.ensures _ c.in-Ok.ensures.0 _ c.rule-r.ensures c.requires
 
 pub returns : goal.returns
 returns c =
     let a = c.args in
-    let r = c.rule-r.ensures in
-    let kind = c.in-Ok.ensures.1 in
-    let e = c.tell.ensures ∙ told_call a.s.now a.c kind c.if-c-gt15.false _ c.advance.ensures _ c.in-Ok.ensures.0 _ r in
+    let p = c.in-Ok-try_from in
+    let e = c.tell.ensures ∙ told_call a.s.now a.c c.in-Ok.ensures.1 _ p.ensures p.p.known _ c.advance.ensures _ c.in-Ok.ensures.0 _ c.rule-r.ensures in
     (e, ap (λ (s : Stepped). sound s.monitor) e ∙ call_sound a.s.now a.c c.requires)

@@ -4,7 +4,7 @@ use Rattle.monitor.proofs.transaction.can_commit.Goals as goal
 
 pub has_open_end-open-requires : goal.has_open_end-open-requires
 has_open_end-open-requires c =
-    (c.requires.1, c.requires.2 ∙ ap (λ (q : Party). first_of (of_tx q.owned) (live (view c.args.s.now))) (sym c.party_at-q.ensures))
+    (c.requires.0, c.requires.1 ∙ ap (λ (q : Party). first_of (of_tx q.owned) (live (view c.args.s.now))) (sym c.party_at-q.ensures))
 
 pub returns : goal.returns
 unfolding can_commit

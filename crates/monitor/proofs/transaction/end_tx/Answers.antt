@@ -6,7 +6,7 @@ use Rattle.monitor.proofs.transaction.end_tx.Goals as goal
 pub end_links-requires : goal.end_links-requires
 end_links-requires c =
     let k = c.put_party.ensures in
-    (count_kept k c.requires.1, c.requires.2 ∙ ap₂ (λ (q : Party) (m : Monitor). first_of (of_tx q.owned) (live m)) (sym c.party_at-q.ensures) (sym k))
+    (count_kept k c.requires.0, c.requires.1 ∙ ap₂ (λ (q : Party) (m : Monitor). first_of (of_tx q.owned) (live m)) (sym c.party_at-q.ensures) (sym k))
 
 pub returns : goal.returns
 unfolding end_tx
@@ -16,4 +16,4 @@ returns c =
     let q = c.party_at-q in (
       c.end_links.ensures.0
           ∙ ap (λ (k : Monitor). rebuilt k (collect (end_of q.result.owned) (live k))) c.put_party.ensures
-          ∙ ap (λ (x : Party). rebuilt (with_party m a.p (owning_none x)) (collect (end_of x.owned) (live m))) q.ensures, c.end_links.ensures.1)
+          ∙ ap (λ (x : Party). rebuilt (with_party m a.p.index (owning_none x)) (collect (end_of x.owned) (live m))) q.ensures, c.end_links.ensures.1)

@@ -10,9 +10,9 @@ returns-in_default c =
     let ps = (view a.s.now).parties in
     let t = c.owned_at-owned in
     let past = found_none _ _ c.owner.ensures c.in_default.is in
-    let other : eqb (first_of (owns t.result) ps) a.p ≡ false = ne_eqb _ _ (λ e. omega (arith, e, past, c.requires)) in
+    let other : eqb (first_of (owns t.result) ps) a.p.index ≡ false = ne_eqb _ _ (λ e. omega (arith, e, past, c.args.p.known)) in
     sym
-    (ap (λ (k : ℕ). not (eqb k 0) && eqb (first_of (owns k) ps) a.p) (sym t.ensures)
+    (ap (λ (k : ℕ). not (eqb k 0) && eqb (first_of (owns k) ps) a.p.index) (sym t.ensures)
     ∙ ap (λ (b : Bool). not (eqb t.result 0) && b) other
     ∙ and_false (not (eqb t.result 0)))
 
@@ -23,5 +23,5 @@ returns c =
     let ps = (view a.s.now).parties in
     let t = c.owned_at-owned in
     let found = found_some _ _ c.owner.ensures c.in-Some.is in
-    ap (λ (k : ℕ). not (eqb t.result 0) && eqb k a.p) found.0
-    ∙ ap (λ (k : ℕ). not (eqb k 0) && eqb (first_of (owns k) ps) a.p) t.ensures
+    ap (λ (k : ℕ). not (eqb t.result 0) && eqb k a.p.index) found.0
+    ∙ ap (λ (k : ℕ). not (eqb k 0) && eqb (first_of (owns k) ps) a.p.index) t.ensures

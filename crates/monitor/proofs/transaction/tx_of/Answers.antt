@@ -16,7 +16,7 @@ unfolding tx_of
 returns-then-owned-ne0 c =
     let a = c.args in
     let m = view a.s.now in
-    sym (pick_false _ _ _ (ne_eqb _ _ c.if-owned-ne0.true)) ∙ ap (λ (t : ℕ). txBy m t (party m a.p).served) c.owned_at-owned.ensures
+    sym (pick_false _ _ _ (ne_eqb _ _ c.if-owned-ne0.true)) ∙ ap (λ (t : ℕ). txBy m t (party m a.p.index).served) c.owned_at-owned.ensures
 
 pub returns-then-served-eq0 : goal.returns-then-served-eq0
 unfolding tx_of served_tx
@@ -31,12 +31,12 @@ returns-in_default c =
     let m = view c.args.s.now in
     let owned = c.owned_at-owned in
     let served = c.served_at-served in
-    ap (λ (l : Link). l.tx) (sym (no_link c.args.s.now served.result c.requires.1 c.find_link.ensures c.in_default.is))
+    ap (λ (l : Link). l.tx) (sym (no_link c.args.s.now served.result c.requires c.find_link.ensures c.in_default.is))
     ∙ by-served m owned.result served.result c.if-owned-ne0.false c.if-served-eq0.false
     ∙ ap₂ (txBy m) owned.ensures served.ensures
 
 pub tx_at-requires : goal.tx_at-requires
-tx_at-requires c = omega (arith, c.requires.1, (found_some _ _ c.find_link.ensures c.in-Some.is).1)
+tx_at-requires c = omega (arith, c.requires, (found_some _ _ c.find_link.ensures c.in-Some.is).1)
 
 pub returns : goal.returns
 unfolding tx_of
@@ -45,6 +45,6 @@ returns c =
     let owned = c.owned_at-owned in
     let served = c.served_at-served in
     c.tx_at.ensures
-    ∙ ap (λ (l : Link). l.tx) (stands c.args.s.now served.result c.requires.1 c.find_link.ensures c.in-Some.is)
+    ∙ ap (λ (l : Link). l.tx) (stands c.args.s.now served.result c.requires c.find_link.ensures c.in-Some.is)
     ∙ by-served m owned.result served.result c.if-owned-ne0.false c.if-served-eq0.false
     ∙ ap₂ (txBy m) owned.ensures served.ensures

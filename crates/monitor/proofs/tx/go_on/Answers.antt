@@ -19,7 +19,7 @@ unchained S4 h = absurd (h refl)
 pub begin_tx-requires : goal.begin_tx-requires
 begin_tx-requires c =
     let last = ltb-true c.last_tx-left.result 60000 (and_r c.args.start _ c.if-start-left.true) in
-    (c.requires.0, omega (arith, last, c.last_tx-left.ensures))
+    (omega (arith, last, c.last_tx-left.ensures))
 
 pub returns-then-start-left : goal.returns-then-start-left
 unfolding go_on
@@ -30,7 +30,7 @@ returns-then-start-left c =
     let left = sym (ap (λ (t : ℕ). a.start && ltb t 60000) c.last_tx-left.ensures) ∙ c.if-start-left.true in
     let chained = ap (λ (s : State). eqb (state_number s) 4) c.in-S4.is in (
       code_told _ c.coded.ensures
-          ∙ ap₂ ruled (n ∙ ap₂ (λ (m : Monitor) (s : State). entered m a.p (state_number s)) c.begin_tx.ensures c.in-S4.is) z
+          ∙ ap₂ ruled (n ∙ ap₂ (λ (m : Monitor) (s : State). entered m a.p.index (state_number s)) c.begin_tx.ensures c.in-S4.is) z
           ∙ sym (pick_true _ _ _ chained ∙ pick_true _ _ _ left)
     )
 

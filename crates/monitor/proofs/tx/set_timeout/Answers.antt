@@ -6,4 +6,4 @@ pub returns : goal.returns
 returns c =
     let a = c.args in
     let put = c.put_party.ensures in
-    (put ∙ ap (λ (q : Party). with_party (view a.s.now) a.p (with_timeout q a.t)) c.party_at-q.ensures)
+    (put ∙ ap (λ (q : Party). with_party (view a.s.now) a.p.index (with_timeout q a.t)) c.party_at-q.ensures)

@@ -20,5 +20,5 @@ returns c =
     let e = c.in-Some.ensures in
     let n = c.enter.ensures in
     let left = tx_left_lem (view a.s.now) _ c.last_tx.ensures c.if-last_tx-ge-NUMBERS.false in
-    let r = ap (λ (m : Monitor). ruled m tx_ok) (n ∙ ap₂ (λ (m : Monitor) (s : ℕ). entered m a.p s) c.begin_tx.ensures e) in
+    let r = ap (λ (m : Monitor). ruled m tx_ok) (n ∙ ap₂ (λ (m : Monitor) (s : ℕ). entered m a.p.index s) c.begin_tx.ensures e) in
     (passed_told _ _ _ _ e _ _ c.coded-2.ensures (r ∙ sym (pick_true _ _ _ left)))

@@ -12,7 +12,7 @@ unfolding close_of
 returns c =
     let a = c.args in
     let e = c.in-Some.ensures in
-    let n = c.enter.ensures ∙ ap (entered (view a.s.now) a.p) e in
+    let n = c.enter.ensures ∙ ap (entered (view a.s.now) a.p.index) e in
     let k = c.set_timeout.ensures in
-    let r = ap (λ (m : Monitor). ruled m tx_ok) (k ∙ ap (λ (m : Monitor). with_party m a.p (with_timeout (party m a.p) 0)) n) in
+    let r = ap (λ (m : Monitor). ruled m tx_ok) (k ∙ ap (λ (m : Monitor). with_party m a.p.index (with_timeout (party m a.p.index) 0)) n) in
     (passed_told _ _ _ _ e _ _ c.coded-2.ensures r)

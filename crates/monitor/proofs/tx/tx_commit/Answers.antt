@@ -18,20 +18,20 @@ returns-then-not-own c =
 pub can_commit-can-requires : goal.can_commit-can-requires
 can_commit-can-requires c =
     let a = c.args in
-    let first = first_of_owned (view a.s.now) a.p _ _ c.owned_at-t.ensures c.first_of_tx-from.ensures in
-    (c.requires.0, c.requires.1, first)
+    let first = first_of_owned (view a.s.now) a.p.index _ _ c.owned_at-t.ensures c.first_of_tx-from.ensures in
+    (c.requires, first)
 
 pub end_tx-requires : goal.end_tx-requires
 end_tx-requires c =
     let a = c.args in
-    let first = first_of_owned (view a.s.now) a.p _ _ c.owned_at-t.ensures c.first_of_tx-from.ensures in
-    (c.requires.0, c.requires.1, first)
+    let first = first_of_owned (view a.s.now) a.p.index _ _ c.owned_at-t.ensures c.first_of_tx-from.ensures in
+    (c.requires, first)
 
 pub go_on-requires : goal.go_on-requires
 go_on-requires c =
     let code = c.commit_code-code in
     let z : to_z w64 (of_z w64 code.result) ≡ code.result = search rules in
-    (c.requires.0, subst EndCode (sym z) code.ensures.1)
+    (subst EndCode (sym z) code.ensures.1)
 
 pub returns : goal.returns
 unfolding commit_of
@@ -44,6 +44,6 @@ returns c =
     let starts = c.all_can_start-start.ensures ∙ ap (λ (rs : List ℕ). all_can_start rs) reports in
     let codes = z ∙ code.ensures.0 ∙ ap₂ commit_code c.can_commit-can.ensures reports in (
       c.go_on.ensures
-          ∙ (λ i. go_on (c.end_tx.ensures.0 i) a.p (e i) (starts i) (codes i))
+          ∙ (λ i. go_on (c.end_tx.ensures.0 i) a.p.index (e i) (starts i) (codes i))
           ∙ owner_told _ _ _ _ e _ _ c.is_owner-own.ensures (ap not c.if-not-own.false)
     )

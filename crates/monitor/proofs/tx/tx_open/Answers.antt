@@ -13,5 +13,5 @@ returns c =
     let a = c.args in
     let e = c.in-Some.ensures in
     let n = c.enter.ensures in
-    let r = ap (λ (m : Monitor). ruled m tx_ok) (n ∙ ap (entered (view a.s.now) a.p) e) in
+    let r = ap (λ (m : Monitor). ruled m tx_ok) (n ∙ ap (entered (view a.s.now) a.p.index) e) in
     (passed_told _ _ _ _ e _ _ c.coded-2.ensures r)

@@ -16,12 +16,12 @@ returns-then-not-own c =
 pub end_tx-requires : goal.end_tx-requires
 end_tx-requires c =
     let a = c.args in
-    let first = first_of_owned (view a.s.now) a.p _ _ c.owned_at-t.ensures c.first_of_tx-from.ensures in
-    (c.requires.0, c.requires.1, first)
+    let first = first_of_owned (view a.s.now) a.p.index _ _ c.owned_at-t.ensures c.first_of_tx-from.ensures in
+    (c.requires, first)
 
 pub go_on-requires : goal.go_on-requires
 go_on-requires c =
-    (c.requires.0, inl refl)
+    (inl refl)
 
 pub returns : goal.returns
 unfolding rollback_of
@@ -29,4 +29,4 @@ returns c =
     let a = c.args in
     let e = c.in-Some.ensures in
     let starts = c.all_can_start-start.ensures ∙ ap (λ (rs : List ℕ). all_can_start rs) c.reports_at-reports.ensures in
-    (c.go_on.ensures ∙ (λ i. go_on (c.end_tx.ensures.0 i) a.p (e i) (starts i) tx_ok) ∙ owner_told _ _ _ _ e _ _ c.is_owner-own.ensures (ap not c.if-not-own.false))
+    (c.go_on.ensures ∙ (λ i. go_on (c.end_tx.ensures.0 i) a.p.index (e i) (starts i) tx_ok) ∙ owner_told _ _ _ _ e _ _ c.is_owner-own.ensures (ap not c.if-not-own.false))

@@ -38,10 +38,10 @@ returns c =
     let a = c.args in
     let e = c.in-Some.ensures in
     let n = c.enter.ensures in
-    let number : state_number c.if-a-eq0.next ≡ next_of 8 (state_of (view a.s.now) a.p) + a.a =
+    let number : state_number c.if-a-eq0.next ≡ next_of 8 (state_of (view a.s.now) a.p.index) + a.a =
     elim c.if-a-eq0.branch [
       | then-a-eq0 w ↦ let is = ap state_number w.next-is in omega (arith, e)
       | else-a-eq0 w ↦ let is = ap state_number (w.next-is ∙ w.chained-next.ensures) in omega (arith, e, chained_next _ _ e)
     ] in
-    let r = ap (λ (m : Monitor). ruled m tx_ok) (n ∙ ap (entered (view a.s.now) a.p) number) in
+    let r = ap (λ (m : Monitor). ruled m tx_ok) (n ∙ ap (entered (view a.s.now) a.p.index) number) in
     (passed_told _ _ _ _ e _ _ c.coded-2.ensures (r ∙ sym (pick_true _ _ _ (le-leb _ _ c.if-a-gt1.false))))

@@ -30,8 +30,8 @@ returns c =
     let a = c.args in
     let m = view a.s.now in
     let put = c.put_party.ensures in
-    let q = ap (λ (x : Party). with_party m a.p (reporting x a.a c.report_number.result)) c.party_at-q.ensures in
-    let r = ap (λ (v : ℕ). with_party m a.p (reporting (party m a.p) a.a v)) c.report_number.ensures in
+    let q = ap (λ (x : Party). with_party m a.p.index (reporting x a.a c.report_number.result)) c.party_at-q.ensures in
+    let r = ap (λ (v : ℕ). with_party m a.p.index (reporting (party m a.p.index) a.a v)) c.report_number.ensures in
     let known : is_report a.a a.b a.c ≡ true = rw (le-leb _ _ c.if-a-gt3.false, le-leb _ _ c.if-b-gt6.false, le-leb _ _ c.if-c-gt1.false) in
     let yes = pick_true _ _ _ (sym c.is_owner.ensures ∙ c.if-not-is_owner.false) ∙ pick_true _ _ _ known in
     (ap₂ ruled_by c.accept.ensures (put ∙ q ∙ r) ∙ sym yes)
