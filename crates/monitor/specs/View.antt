@@ -1,6 +1,6 @@
 -- The record of document 01 read off its words, every one of them, and what a rule tells beside it.
 -- Assumes nothing.
-use Rattle.std.specs.Prelude.{ℕ, zero, suc, ◌-◌, ◌<◌, ◌≤◌, ◌≡◌, Bool, true, false, List, [], ◌∷◌, Option, Some, None, MatchOption, option_to_list, eqb, ltb, length, get_or, take, drop, ℤ}
+use Rattle.std.specs.Prelude.{Result, Ok, Err, ℕ, zero, suc, ◌-◌, ◌<◌, ◌≤◌, ◌≡◌, Bool, true, false, List, [], ◌∷◌, Option, Some, None, MatchOption, option_to_list, eqb, ltb, length, get_or, take, drop, ℤ}
 use Rattle.std.proofs.Math.Seq.{paste}
 use Rattle.rules.specs.declared.Party.{Party}
 use Rattle.rules.specs.declared.Link.{Link}
@@ -10,8 +10,9 @@ use Rattle.rules.specs.declared.Answer.{Answer}
 use Rattle.rules.specs.declared.Stepped.{Stepped}
 use Rattle.rules.specs.Choice.{pick, same}
 use Rattle.rules.specs.Lists.{collect}
-use Rattle.rules.specs.Codes.{tp_accepted}
-use Rattle.rules.specs.Record.{fresh_link, blanks, party, live, with_links, replaced}
+use Rattle.rules.specs.Codes.{tp_accepted, code_of}
+use Rattle.rules.specs.declared.refusal.Refusal.{Refusal}
+use Rattle.rules.specs.Record.{ruled, fresh_link, blanks, party, live, with_links, replaced}
 use Rattle.rules.specs.Transaction.{owner_of, late}
 use Rattle.monitor.specs.Words.{words, read_link, read_party}
 use Rattle.monitor.specs.declared.Told.{Told}
@@ -108,6 +109,16 @@ told_code code = record { code = code; value = 0; event = 0; token = 0; service 
 
 abbrev pub told_value : ℕ → Told
 told_value v = record { code = tp_accepted; value = v; event = 0; token = 0; service = 0 }
+
+-- the same of a rule that may refuse
+abbrev pub told_of : Result Told Refusal → Told
+told_of (Ok t) = t
+told_of (Err why) = told_code (code_of why)
+
+-- the questions before a link is made: what they leave of the rest
+abbrev pub asked : Result Unit Refusal → Monitor → Ruled → Ruled
+asked (Ok _) m rest = rest
+asked (Err why) m rest = ruled m (code_of why)
 
 abbrev pub stepped : Answer → Monitor → Stepped
 stepped r m = record { monitor = m; answer = r }

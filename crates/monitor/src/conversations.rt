@@ -4,14 +4,14 @@ ghost use Rattle.rules.specs.Record.{place_of, notified, with_sent, without_olde
 ghost use Rattle.rules.specs.Conversations.{originator_end, server_end, any_end, hears_disconnect, hears_return, end_side, is_sender, tells_disconnect};
 ghost use Rattle.rules.specs.Conversations.{tells_return, send_on, send_of, carries_grant, received, receive_on, receive_of, disconnected_at, disconnect_of};
 ghost use Rattle.monitor.specs.Words.{words};
-ghost use Rattle.monitor.specs.View.{view, ruled_by};
+ghost use Rattle.monitor.specs.View.{view, ruled_by, told_of};
 
 use super::party::PartyNumber;
 use super::Told;
 use super::links::{accept, coded, disconnect_link, find_link, is_own_end, remove_at};
 use super::transaction::{is_expired, set_rollback_only};
 use super::words::{WORDS, link_at, put_link};
-use rules::{Link, codes};
+use rules::{Link, Refusal, codes};
 
 // Is it an open conversation end of party p's, as its originator?
 pub(crate) fn is_originator_end(p: PartyNumber, l: Link) -> bool
@@ -129,50 +129,50 @@ pub(crate) fn send_on(
     b: u32,
     c: u32,
     l: Link,
-) -> Told
+) -> Result<Told, Refusal>
     requires { ((view s.old).count ≤ 32) × (i ≡ place_of (view s.old) a) × (i < (view s.old).count) }
-    ensures { ruled_by result (view s.new) ≡ send_on (view s.old) p.index a b c l }
+    ensures { ruled_by (told_of result) (view s.new) ≡ send_on (view s.old) p.index a b c l }
 {
     let known = is_any_end(p, l);
     if !known {
-        return coded(codes::NO_SUCH_END);
+        return Err(Refusal::NoSuchEnd);
     }
     if b > 1 {
-        return coded(codes::BAD_ARGUMENT);
+        return Err(Refusal::BadArgument);
     }
     let late = is_expired(s, l.tx);
     if late {
-        return coded(codes::TIMED_OUT);
+        return Err(Refusal::TimedOut);
     }
     let disconnected = hears_disconnect(p, l);
     if disconnected {
-        return tell_disconnect(s, i, a, l);
+        return Ok(tell_disconnect(s, i, a, l));
     }
     let over = hears_return(p, l);
     let failed = over & !(l.outcome == codes::TPEV_SVCSUCC);
     if failed {
-        return tell_return(s, i, a, l);
+        return Ok(tell_return(s, i, a, l));
     }
     let sender = is_sender(p, l);
     let free = sender & (l.granting == 0);
     if !free {
-        return coded(codes::NOT_ALLOWED_NOW);
+        return Err(Refusal::NotAllowedNow);
     }
     if l.filled >= Link::UNREAD {
-        return coded(codes::UNREAD_FULL);
+        return Err(Refusal::UnreadFull);
     }
     let k = with_sent(l, b, c);
     put_link(s, i, k);
-    accept(0)
+    Ok(accept(0))
 }
 
 // Kind 17.
-pub(crate) fn tpsend(s: &mut [u32; WORDS], p: PartyNumber, a: u32, b: u32, c: u32) -> Told
+pub(crate) fn tpsend(s: &mut [u32; WORDS], p: PartyNumber, a: u32, b: u32, c: u32) -> Result<Told, Refusal>
     requires { (view s.old).count ≤ 32 }
-    ensures { ruled_by result (view s.new) ≡ send_of (view s.old) p.index a b c }
+    ensures { ruled_by (told_of result) (view s.new) ≡ send_of (view s.old) p.index a b c }
 {
     let Some(i) = find_link(s, a) else {
-        return coded(codes::NO_SUCH_END);
+        return Err(Refusal::NoSuchEnd);
     };
     let l = link_at(s, i);
     send_on(s, p, i, a, b, c, l)
@@ -231,43 +231,43 @@ pub(crate) fn receive(s: &mut [u32; WORDS], p: PartyNumber, i: usize, a: u32, l:
 }
 
 // Kind 18, on the link l with the number a, which stands at the place i.
-pub(crate) fn receive_on(s: &mut [u32; WORDS], p: PartyNumber, i: usize, a: u32, l: Link) -> Told
+pub(crate) fn receive_on(s: &mut [u32; WORDS], p: PartyNumber, i: usize, a: u32, l: Link) -> Result<Told, Refusal>
     requires { ((view s.old).count ≤ 32) × (i ≡ place_of (view s.old) a) × (i < (view s.old).count) }
-    ensures { ruled_by result (view s.new) ≡ receive_on (view s.old) p.index a l }
+    ensures { ruled_by (told_of result) (view s.new) ≡ receive_on (view s.old) p.index a l }
 {
     let known = is_any_end(p, l);
     if !known {
-        return coded(codes::NO_SUCH_END);
+        return Err(Refusal::NoSuchEnd);
     }
     let late = is_expired(s, l.tx);
     if late {
-        return coded(codes::TIMED_OUT);
+        return Err(Refusal::TimedOut);
     }
     let disconnected = hears_disconnect(p, l);
     if disconnected {
-        return tell_disconnect(s, i, a, l);
+        return Ok(tell_disconnect(s, i, a, l));
     }
     let over = hears_return(p, l);
     if over {
-        return tell_return(s, i, a, l);
+        return Ok(tell_return(s, i, a, l));
     }
     let sender = is_sender(p, l);
     if sender {
-        return coded(codes::NOT_ALLOWED_NOW);
+        return Err(Refusal::NotAllowedNow);
     }
     if l.filled == 0 {
-        return coded(codes::NOTHING_UNREAD);
+        return Err(Refusal::NothingUnread);
     }
-    receive(s, p, i, a, l)
+    Ok(receive(s, p, i, a, l))
 }
 
 // Kind 18.
-pub(crate) fn tprecv(s: &mut [u32; WORDS], p: PartyNumber, a: u32) -> Told
+pub(crate) fn tprecv(s: &mut [u32; WORDS], p: PartyNumber, a: u32) -> Result<Told, Refusal>
     requires { (view s.old).count ≤ 32 }
-    ensures { ruled_by result (view s.new) ≡ receive_of (view s.old) p.index a }
+    ensures { ruled_by (told_of result) (view s.new) ≡ receive_of (view s.old) p.index a }
 {
     let Some(i) = find_link(s, a) else {
-        return coded(codes::NO_SUCH_END);
+        return Err(Refusal::NoSuchEnd);
     };
     let l = link_at(s, i);
     receive_on(s, p, i, a, l)
@@ -287,19 +287,19 @@ pub(crate) fn disconnect_at(s: &mut [u32; WORDS], i: usize, a: u32, l: Link)
 }
 
 // Kind 19.
-pub(crate) fn tpdiscon(s: &mut [u32; WORDS], p: PartyNumber, a: u32) -> Told
+pub(crate) fn tpdiscon(s: &mut [u32; WORDS], p: PartyNumber, a: u32) -> Result<Told, Refusal>
     requires { (view s.old).count ≤ 32 }
-    ensures { ruled_by result (view s.new) ≡ disconnect_of (view s.old) p.index a }
+    ensures { ruled_by (told_of result) (view s.new) ≡ disconnect_of (view s.old) p.index a }
 {
     let Some(i) = find_link(s, a) else {
-        return coded(codes::NO_SUCH_END);
+        return Err(Refusal::NoSuchEnd);
     };
     let l = link_at(s, i);
     let own = is_originator_end(p, l);
     if !own {
-        return coded(codes::NO_SUCH_END);
+        return Err(Refusal::NoSuchEnd);
     }
     set_rollback_only(s, l.tx);
     disconnect_at(s, i, a, l);
-    accept(0)
+    Ok(accept(0))
 }

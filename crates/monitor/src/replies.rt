@@ -6,7 +6,7 @@ ghost use Rattle.rules.specs.Replies.{request_end, outcome_code, fetched, fetch_
 ghost use Rattle.rules.specs.Replies.{cancelled, cancel_of};
 ghost use Rattle.rules.specs.Sound.{sound};
 ghost use Rattle.monitor.specs.Words.{words};
-ghost use Rattle.monitor.specs.View.{view, link_in, place_among, ruled_by};
+ghost use Rattle.monitor.specs.View.{view, link_in, place_among, ruled_by, told_of};
 
 use super::party::PartyNumber;
 use super::Told;
@@ -16,7 +16,7 @@ use super::transaction::is_expired;
 use super::words::{
     WORDS, attached_at, kind_at, link_at, originator_at, put_link, state_at, tx_at,
 };
-use rules::{Link, codes};
+use rules::{Link, Refusal, codes};
 
 pub(crate) fn is_request_end(p: PartyNumber, l: Link) -> bool
     ensures { result ≡ request_end p.index l }
@@ -52,26 +52,26 @@ pub(crate) fn fetch(s: &mut [u32; WORDS], i: usize, a: u32, l: Link, v: u32) -> 
 }
 
 // The reply of link a.
-pub(crate) fn fetch_one(s: &mut [u32; WORDS], p: PartyNumber, a: u32) -> Told
+pub(crate) fn fetch_one(s: &mut [u32; WORDS], p: PartyNumber, a: u32) -> Result<Told, Refusal>
     requires { sound (view s.old) ≡ true }
-    ensures { ruled_by result (view s.new) ≡ fetch_one (view s.old) p.index a }
+    ensures { ruled_by (told_of result) (view s.new) ≡ fetch_one (view s.old) p.index a }
 {
     let Some(i) = find_link(s, a) else {
-        return coded(codes::NO_SUCH_END);
+        return Err(Refusal::NoSuchEnd);
     };
     let l = link_at(s, i);
     let own = is_request_end(p, l);
     if !own {
-        return coded(codes::NO_SUCH_END);
+        return Err(Refusal::NoSuchEnd);
     }
     let late = is_expired(s, l.tx);
     if late {
-        return coded(codes::TIMED_OUT);
+        return Err(Refusal::TimedOut);
     }
     if l.state != 2 {
-        return coded(codes::NO_REPLY_YET);
+        return Err(Refusal::NoReplyYet);
     }
-    fetch(s, i, a, l, 0)
+    Ok(fetch(s, i, a, l, 0))
 }
 
 // Is the link at the place i one?
@@ -133,31 +133,31 @@ pub(crate) fn next_reply(s: &[u32; WORDS], p: PartyNumber, from: usize) -> Optio
 }
 
 // Whichever reply is there.
-pub(crate) fn fetch_any(s: &mut [u32; WORDS], p: PartyNumber) -> Told
+pub(crate) fn fetch_any(s: &mut [u32; WORDS], p: PartyNumber) -> Result<Told, Refusal>
     requires { sound (view s.old) ≡ true }
-    ensures { ruled_by result (view s.new) ≡ fetch_any (view s.old) p.index }
+    ensures { ruled_by (told_of result) (view s.new) ≡ fetch_any (view s.old) p.index }
 {
     let Some(from) = first_request_end(s, p) else {
-        return coded(codes::NO_SUCH_END);
+        return Err(Refusal::NoSuchEnd);
     };
     let late = has_expired_end(s, p, from);
     if late {
-        return coded(codes::TIMED_OUT);
+        return Err(Refusal::TimedOut);
     }
     let Some(next) = next_reply(s, p, from) else {
-        return coded(codes::NO_REPLY_YET);
+        return Err(Refusal::NoReplyYet);
     };
     let l = link_at(s, next);
-    fetch(s, next, l.number, l, l.number)
+    Ok(fetch(s, next, l.number, l, l.number))
 }
 
 // Kind 15.
-pub(crate) fn tpgetrply(s: &mut [u32; WORDS], p: PartyNumber, a: u32, b: u32) -> Told
+pub(crate) fn tpgetrply(s: &mut [u32; WORDS], p: PartyNumber, a: u32, b: u32) -> Result<Told, Refusal>
     requires { sound (view s.old) ≡ true }
-    ensures { ruled_by result (view s.new) ≡ fetch_of (view s.old) p.index a b }
+    ensures { ruled_by (told_of result) (view s.new) ≡ fetch_of (view s.old) p.index a b }
 {
     if b > 1 {
-        return coded(codes::BAD_ARGUMENT);
+        return Err(Refusal::BadArgument);
     }
     if b == codes::TPGETANY {
         return fetch_any(s, p);
@@ -179,21 +179,21 @@ pub(crate) fn cancel(s: &mut [u32; WORDS], i: usize, a: u32, l: Link)
 }
 
 // Kind 16.
-pub(crate) fn tpcancel(s: &mut [u32; WORDS], p: PartyNumber, a: u32) -> Told
+pub(crate) fn tpcancel(s: &mut [u32; WORDS], p: PartyNumber, a: u32) -> Result<Told, Refusal>
     requires { (view s.old).count ≤ 32 }
-    ensures { ruled_by result (view s.new) ≡ cancel_of (view s.old) p.index a }
+    ensures { ruled_by (told_of result) (view s.new) ≡ cancel_of (view s.old) p.index a }
 {
     let Some(i) = find_link(s, a) else {
-        return coded(codes::NO_SUCH_END);
+        return Err(Refusal::NoSuchEnd);
     };
     let l = link_at(s, i);
     let own = is_request_end(p, l);
     if !own {
-        return coded(codes::NO_SUCH_END);
+        return Err(Refusal::NoSuchEnd);
     }
     if l.tx != 0 {
-        return coded(codes::IN_TRANSACTION);
+        return Err(Refusal::InTransaction);
     }
     cancel(s, i, a, l);
-    accept(0)
+    Ok(accept(0))
 }

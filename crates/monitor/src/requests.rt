@@ -1,22 +1,22 @@
 // Kinds 12 to 14: a request, a connect, and the dispatch of a waiting link.
-ghost use Rattle.std.specs.Prelude.{◌≡◌, ◌+◌, ◌<◌, ◌≤◌, length};
+ghost use Rattle.std.specs.Prelude.{◌≡◌, ◌+◌, ◌<◌, ◌≤◌, IfOk};
+ghost use Rattle.rules.specs.declared.Ruled.{Ruled};
 ghost use Rattle.rules.specs.Choice.{pick};
-ghost use Rattle.rules.specs.Record.{added, valued, new_link};
+ghost use Rattle.rules.specs.Record.{added, new_link};
 ghost use Rattle.rules.specs.Requests.{no_reply, no_tran, recv_only, connect_flags, link_tx, link_left, ask_link, request_of, connect_of, is_idle, fits};
 ghost use Rattle.rules.specs.Requests.{dispatch_event, dispatched, next_waiting, dispatch_of};
-ghost use Rattle.monitor.specs.Words.{words};
-ghost use Rattle.monitor.specs.View.{view, place_among, ruled_by};
+ghost use Rattle.monitor.specs.View.{view, asked, place_among, ruled_by, told_of};
 
 use super::party::PartyNumber;
 use super::Told;
-use super::links::{accept, coded, has_own_end};
+use super::links::{accept, has_own_end};
 use super::searches::first_link;
 use super::services::{in_set, is_offered, is_offering, is_service};
 use super::transaction::{is_late_at, live_owner, tx_of};
 use super::words::{
     WORDS, add_link, count, last_link, link_at, mayrequest_at, party_at, put_link, put_party,
 };
-use rules::{Link, Monitor, Party, codes};
+use rules::{Link, Monitor, Party, Refusal, codes};
 
 // The flags of a request: TPNOREPLY and TPNOTRAN; of a connect: TPNOTRAN, TPSENDONLY, TPRECVONLY.
 pub(crate) fn no_reply(b: u32) -> bool
@@ -111,33 +111,34 @@ pub(crate) fn is_link_left(s: &[u32; WORDS]) -> bool
     (len < Monitor::LINKS) & (last < Monitor::NUMBERS)
 }
 
-// The questions after the flags: the number of the first "no", and 0 where there is none.
-pub(crate) fn ask_link(s: &[u32; WORDS], p: PartyNumber, t: u32, a: u32) -> i64
-    ensures { result ≡ (ask_link (view s.now) p.index t a (valued (view s.now) 0)).code }
+// The questions after the flags.
+pub(crate) fn ask_link(s: &[u32; WORDS], p: PartyNumber, t: u32, a: u32) -> Result<(), Refusal>
+    ensures answer { (rest : Ruled) → ask_link (view s.now) p.index t a rest ≡ asked result (view s.now) rest }
+    ensures room { IfOk result (λ _. ((view s.now).count < 32) × ((view s.now).lastlink < 60000)) }
 {
     let set = mayrequest_at(s, p.index);
     let permitted = in_set(set, a);
     if !permitted {
-        return codes::NOT_PERMITTED;
+        return Err(Refusal::NotPermitted);
     }
     let o = live_owner(s, t);
     let ended = !(t == 0) & o.is_none();
     if ended {
-        return codes::NOT_ALLOWED_NOW;
+        return Err(Refusal::NotAllowedNow);
     }
     let late = is_late_at(s, o);
     if late {
-        return codes::TIMED_OUT;
+        return Err(Refusal::TimedOut);
     }
     let some = is_offered(s, a);
     if !some {
-        return codes::NOT_OFFERED;
+        return Err(Refusal::NotOffered);
     }
     let left = is_link_left(s);
     if !left {
-        return codes::NO_ROOM_LEFT;
+        return Err(Refusal::NoRoomLeft);
     }
-    codes::TP_ACCEPTED
+    Ok(())
 }
 
 // The new link gets the next number, which is the value, and its place.
@@ -162,49 +163,43 @@ pub(crate) fn open_link(
 }
 
 // Kind 12.
-pub(crate) fn tpacall(s: &mut [u32; WORDS], p: PartyNumber, a: u32, b: u32, c: u32) -> Told
+pub(crate) fn tpacall(s: &mut [u32; WORDS], p: PartyNumber, a: u32, b: u32, c: u32) -> Result<Told, Refusal>
     requires { (view s.old).count ≤ 32 }
-    ensures { ruled_by result (view s.new) ≡ request_of (view s.old) p.index a b c }
+    ensures { ruled_by (told_of result) (view s.new) ≡ request_of (view s.old) p.index a b c }
 {
     let own = tx_of(s, p);
     let service = is_service(a);
     let good = service & ((b <= 3) & !((b == codes::TPNOREPLY) & !(own == 0)));
     if !good {
-        return coded(codes::BAD_ARGUMENT);
+        return Err(Refusal::BadArgument);
     }
     let t = link_tx(s, p, b);
-    let code = ask_link(s, p, t, a);
-    if code != codes::TP_ACCEPTED {
-        return coded(code);
-    }
+    ask_link(s, p, t, a)?;
     let attached = open_end(b);
     let d = open_link(s, 0, p, attached, a, t, c, 0);
     let silent = no_reply(b);
     if silent {
-        return accept(0);
+        return Ok(accept(0));
     }
-    accept(d)
+    Ok(accept(d))
 }
 
 // Kind 13.
-pub(crate) fn tpconnect(s: &mut [u32; WORDS], p: PartyNumber, a: u32, b: u32, c: u32) -> Told
+pub(crate) fn tpconnect(s: &mut [u32; WORDS], p: PartyNumber, a: u32, b: u32, c: u32) -> Result<Told, Refusal>
     requires { (view s.old).count ≤ 32 }
-    ensures { ruled_by result (view s.new) ≡ connect_of (view s.old) p.index a b c }
+    ensures { ruled_by (told_of result) (view s.new) ≡ connect_of (view s.old) p.index a b c }
 {
     let service = is_service(a);
     let flags = connect_flags(b);
     let good = service & flags;
     if !good {
-        return coded(codes::BAD_ARGUMENT);
+        return Err(Refusal::BadArgument);
     }
     let t = link_tx(s, p, b);
-    let code = ask_link(s, p, t, a);
-    if code != codes::TP_ACCEPTED {
-        return coded(code);
-    }
+    ask_link(s, p, t, a)?;
     let sender = first_sender(b);
     let d = open_link(s, 1, p, 1, a, t, c, sender);
-    accept(d)
+    Ok(accept(d))
 }
 
 // May party p take a link?
@@ -278,17 +273,17 @@ pub(crate) fn dispatch_at(s: &mut [u32; WORDS], p: PartyNumber, i: usize, l: Lin
 }
 
 // Kind 14.
-pub(crate) fn dispatch(s: &mut [u32; WORDS], p: PartyNumber) -> Told
+pub(crate) fn dispatch(s: &mut [u32; WORDS], p: PartyNumber) -> Result<Told, Refusal>
     requires { (view s.old).count ≤ 32 }
-    ensures { ruled_by result (view s.new) ≡ dispatch_of (view s.old) p.index }
+    ensures { ruled_by (told_of result) (view s.new) ≡ dispatch_of (view s.old) p.index }
 {
     let idle = is_idle(s, p);
     if !idle {
-        return coded(codes::NOT_ALLOWED_NOW);
+        return Err(Refusal::NotAllowedNow);
     }
     let Some(i) = next_waiting(s, p) else {
-        return coded(codes::NOTHING_WAITING);
+        return Err(Refusal::NothingWaiting);
     };
     let l = link_at(s, i);
-    dispatch_at(s, p, i, l)
+    Ok(dispatch_at(s, p, i, l))
 }

@@ -4,7 +4,7 @@ ghost use Rattle.rules.specs.Lists.{first_of};
 ghost use Rattle.rules.specs.Record.{is_server_free, own_end, live, with_parties};
 ghost use Rattle.rules.specs.Return.{plain_outcome, outcome_of, unread_after, close_end, rollback_only_by, close_own, end_own, rollback_only_served, serves_none, ending_of, hand_back, leave, return_with, return_of, died_out, after_death, terminate_of};
 ghost use Rattle.monitor.specs.Words.{words};
-ghost use Rattle.monitor.specs.View.{view, ruled_by};
+ghost use Rattle.monitor.specs.View.{view, ruled_by, told_of};
 
 use super::party::PartyNumber;
 use super::Told;
@@ -15,7 +15,7 @@ use super::links::{
 };
 use super::transaction::{end_tx, first_of_tx, set_rollback_only};
 use super::words::{WORDS, count, link_at, owned_at, party_at, put_party, served_at};
-use rules::{Link, Party, codes};
+use rules::{Link, Party, Refusal, codes};
 
 // Is the server the sender, with no grant under way?
 pub(crate) fn is_server_free(l: Link) -> bool
@@ -202,22 +202,22 @@ pub(crate) fn return_with(s: &mut [u32; WORDS], p: PartyNumber, o: u32, c: u32) 
 }
 
 // Kind 20.
-pub(crate) fn tpreturn(s: &mut [u32; WORDS], p: PartyNumber, a: u32, c: u32) -> Told
+pub(crate) fn tpreturn(s: &mut [u32; WORDS], p: PartyNumber, a: u32, c: u32) -> Result<Told, Refusal>
     requires { (view s.old).count ≤ 32 }
-    ensures { ruled_by result (view s.new) ≡ return_of (view s.old) p.index a c }
+    ensures { ruled_by (told_of result) (view s.new) ≡ return_of (view s.old) p.index a c }
 {
     let d = served_at(s, p.index);
     if d == 0 {
-        return coded(codes::NOT_ALLOWED_NOW);
+        return Err(Refusal::NotAllowedNow);
     }
     let good = (a == codes::TPSUCCESS) | (a == codes::TPFAIL);
     if !good {
-        return coded(codes::BAD_ARGUMENT);
+        return Err(Refusal::BadArgument);
     }
     let i = place_of(s, d);
     let l = live_at(s, i);
     let o = outcome_of(s, p, a, c, l);
-    return_with(s, p, o, c)
+    Ok(return_with(s, p, o, c))
 }
 
 // What a party that died leaves behind.

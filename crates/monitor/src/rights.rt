@@ -2,13 +2,13 @@
 ghost use Rattle.std.specs.Prelude.{◌≡◌, length};
 ghost use Rattle.rules.specs.Rights.{granted, rights_of};
 ghost use Rattle.monitor.specs.Words.{words};
-ghost use Rattle.monitor.specs.View.{view, ruled_by};
+ghost use Rattle.monitor.specs.View.{view, ruled_by, told_of};
 
 use super::party::PartyNumber;
 use super::Told;
 use super::links::{accept, coded};
 use super::words::{WORDS, long, party_at, put_party};
-use rules::{Party, codes};
+use rules::{Party, Refusal, codes};
 
 // The party with the set that a names replaced.
 #[tactic(auto, unfolding(rules::specs::Rights::granted, rules::specs::Choice::pick))]
@@ -30,17 +30,17 @@ pub(crate) fn grant(q: Party, a: u32, set: u64) -> Party
 
 // Kind 23.
 #[tactic(auto, unfolding(rules::specs::Rights::rights_of, rules::specs::Choice::pick))]
-pub(crate) fn set_rights(s: &mut [u32; WORDS], p: PartyNumber, a: u32, b: u32, c: u32) -> Told
-    ensures { ruled_by result (view s.new) ≡ rights_of (view s.old) p.index a b c }
+pub(crate) fn set_rights(s: &mut [u32; WORDS], p: PartyNumber, a: u32, b: u32, c: u32) -> Result<Told, Refusal>
+    ensures { ruled_by (told_of result) (view s.new) ≡ rights_of (view s.old) p.index a b c }
 {
     if p.index != 0 {
-        return coded(codes::NOT_PERMITTED);
+        return Err(Refusal::NotPermitted);
     }
     if a >= 32 {
-        return coded(codes::BAD_ARGUMENT);
+        return Err(Refusal::BadArgument);
     }
     let i = (a / 2) as usize;
     let q = grant(party_at(s, i), a, long(b, c));
     put_party(s, i, q);
-    accept(0)
+    Ok(accept(0))
 }

@@ -4,11 +4,12 @@ ghost use Rattle.rules.specs.Sound.{sound};
 ghost use Rattle.rules.specs.Step.{rule_of, advanced, answered_to, call_of, step_of};
 ghost use Rattle.monitor.specs.Kinds.{kind_number};
 ghost use Rattle.monitor.specs.Words.{words};
-ghost use Rattle.monitor.specs.View.{view, ruled_by, stepped, code_answer};
+ghost use Rattle.monitor.specs.View.{view, ruled_by, told_of, stepped, code_answer};
 
 use super::party::PartyNumber;
 use super::conversations::{tpdiscon, tprecv, tpsend};
 use super::kinds::Kind;
+use super::links::coded;
 use super::replies::{tpcancel, tpgetrply};
 use super::requests::{dispatch, tpacall, tpconnect};
 use super::returns::{terminate, tpreturn};
@@ -23,13 +24,13 @@ use super::tx::{
 use super::votes::report;
 use super::words::{Store, WORDS, clock, set_clock};
 use super::{Stepped, Told};
-use rules::{Answer, Call, codes};
+use rules::{Answer, Call, Refusal, codes};
 
 // Each kind decides by its number.
 #[tactic(auto, using(crate::proofs::Laws::sound_room), unfolding(rules::specs::Step::rule_of, rules::specs::Choice::pick))]
-pub(crate) fn rule(s: &mut [u32; WORDS], p: PartyNumber, kind: Kind, a: u32, b: u32, c: u32) -> Told
+pub(crate) fn rule(s: &mut [u32; WORDS], p: PartyNumber, kind: Kind, a: u32, b: u32, c: u32) -> Result<Told, Refusal>
     requires { sound (view s.old) ≡ true }
-    ensures { ruled_by result (view s.new) ≡ rule_of (view s.old) p.index (kind_number kind) a b c }
+    ensures { ruled_by (told_of result) (view s.new) ≡ rule_of (view s.old) p.index (kind_number kind) a b c }
 {
     match kind {
         Kind::TxOpen => tx_open(s, p),
@@ -52,7 +53,7 @@ pub(crate) fn rule(s: &mut [u32; WORDS], p: PartyNumber, kind: Kind, a: u32, b: 
         Kind::TpRecv => tprecv(s, p, a),
         Kind::TpDiscon => tpdiscon(s, p, a),
         Kind::TpReturn => tpreturn(s, p, a, c),
-        Kind::Terminate => terminate(s, p),
+        Kind::Terminate => Ok(terminate(s, p)),
         Kind::Report => report(s, p, a, b, c),
         Kind::SetRights => set_rights(s, p, a, b, c),
     }
@@ -66,18 +67,29 @@ pub(crate) fn advance(s: &mut [u32; WORDS], t: u32)
     set_clock(s, now.max(t));
 }
 
-// What a rule tells, with the caller's T afterwards.
-pub(crate) fn tell(s: &[u32; WORDS], r: Told, p: PartyNumber) -> Answer
-    requires { (view s.now).count ≤ 32 }
-    ensures { stepped result (view s.now) ≡ answered_to (ruled_by r (view s.now)) p.index }
+// What a rule tells, a refusal by its number.
+fn told(r: Result<Told, Refusal>) -> Told
+    ensures { result ≡ told_of r }
 {
+    match r {
+        Ok(told) => told,
+        Err(why) => coded(why.code()),
+    }
+}
+
+// What a rule tells, with the caller's T afterwards.
+pub(crate) fn tell(s: &[u32; WORDS], r: Result<Told, Refusal>, p: PartyNumber) -> Answer
+    requires { (view s.now).count ≤ 32 }
+    ensures { stepped result (view s.now) ≡ answered_to (ruled_by (told_of r) (view s.now)) p.index }
+{
+    let told = told(r);
     let t = tx_of(s, p);
     Answer {
-        code: r.code,
-        value: r.value,
-        event: r.event,
-        token: r.token,
-        service: r.service,
+        code: told.code,
+        value: told.value,
+        event: told.event,
+        token: told.token,
+        service: told.service,
         tx: t,
     }
 }

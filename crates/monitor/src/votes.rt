@@ -4,14 +4,14 @@ ghost use Rattle.rules.specs.Lists.{any_of};
 ghost use Rattle.rules.specs.Votes.{report_number, report_is, report_of, vote_code, commit_code, all_can_start};
 ghost use Rattle.monitor.specs.Ending.{EndCode};
 ghost use Rattle.monitor.specs.Words.{words};
-ghost use Rattle.monitor.specs.View.{view, ruled_by};
+ghost use Rattle.monitor.specs.View.{view, ruled_by, told_of};
 
 use super::party::PartyNumber;
 use super::Told;
 use super::links::{accept, coded};
 use super::transaction::is_owner;
 use super::words::{WORDS, party_at, put_party};
-use rules::codes;
+use rules::{Refusal, codes};
 
 // A report of b as the record keeps it, with c = 1 where the manager can't start.
 #[tactic(auto, unfolding(rules::specs::Votes::report_number, rules::specs::Choice::pick))]
@@ -96,18 +96,18 @@ pub(crate) fn commit_code(can: bool, rs: [u32; 4]) -> i64
 }
 
 // Kind 22.
-pub(crate) fn report(s: &mut [u32; WORDS], p: PartyNumber, a: u32, b: u32, c: u32) -> Told
+pub(crate) fn report(s: &mut [u32; WORDS], p: PartyNumber, a: u32, b: u32, c: u32) -> Result<Told, Refusal>
     requires { (view s.old).count ≤ 32 }
-    ensures { ruled_by result (view s.new) ≡ report_of (view s.old) p.index a b c }
+    ensures { ruled_by (told_of result) (view s.new) ≡ report_of (view s.old) p.index a b c }
 {
     if !is_owner(s, p) {
-        return coded(codes::NOT_ALLOWED_NOW);
+        return Err(Refusal::NotAllowedNow);
     }
     if a > 3 || b > 6 || c > 1 {
-        return coded(codes::BAD_REPORT);
+        return Err(Refusal::BadReport);
     }
     let mut q = party_at(s, p.index);
     q.reports[a as usize] = report_number(b, c);
     put_party(s, p.index, q);
-    accept(0)
+    Ok(accept(0))
 }

@@ -1,5 +1,5 @@
 -- `conversations::send_on` meets its contract.
-use Rattle.monitor.proofs.Usual.{◌≡◌, ap, ap₂, sym, ◌∙◌, Bool, true, false, not, ◌&&◌, ruled, arith, eqb, leb, lt-ltb, le-ltb, le-leb, lt-leb}
+use Rattle.monitor.proofs.Usual.{refl, ◌≡◌, ap, ap₂, sym, ◌∙◌, Bool, true, false, not, ◌&&◌, ruled, arith, eqb, leb, lt-ltb, le-ltb, le-leb, lt-leb}
 use Rattle.monitor.proofs.Usual.{Ruled, pick, pick_true, pick_false, no_such_end, timed_out, ask, expired, any_end}
 use Rattle.monitor.proofs.Usual.{hears_disconnect, hears_return, send_on, view, ruled_by}
 use Rattle.rules.specs.Codes.{bad_argument, tpev_svc_succ}
@@ -10,13 +10,13 @@ pub returns-then-not-known : goal.returns-then-not-known
 unfolding send_on
 returns-then-not-known c =
     let stranger : let a = c.args in any_end a.p.index a.l ≡ false = sym c.is_any_end-known.ensures ∙ c.if-not-known.true in
-    (refused c.coded.ensures (pick_false _ _ _ stranger))
+    (refused refl (pick_false _ _ _ stranger))
 
 pub returns-then-b-gt1 : goal.returns-then-b-gt1
 unfolding send_on
 returns-then-b-gt1 c =
     let known : let a = c.args in any_end a.p.index a.l ≡ true = sym c.is_any_end-known.ensures ∙ c.if-not-known.false in (
-      refused c.coded-then-b-gt1.ensures (pick_true _ _ _ known ∙ pick_false _ _ _ (lt-leb _ _ c.if-b-gt1.true))
+      refused refl (pick_true _ _ _ known ∙ pick_false _ _ _ (lt-leb _ _ c.if-b-gt1.true))
     )
 
 pub returns-then-late : goal.returns-then-late
@@ -29,7 +29,7 @@ returns-then-late c =
     let known : let a = c.args in any_end a.p.index a.l ≡ true = sym c.is_any_end-known.ensures ∙ c.if-not-known.false in
     let flagged : (r : Ruled) → opens r ≡ r = λ r. pick_true _ _ _ known ∙ pick_true _ _ _ (le-leb _ _ c.if-b-gt1.false) in
     let late : (r : Ruled) → asks r ≡ ruled (view c.args.s.now) timed_out = λ r. flagged _ ∙ pick_false _ _ _ (ap not (sym c.is_expired-late.ensures ∙ c.if-late.true)) in
-    (refused c.coded-then-late.ensures (late _))
+    (refused refl (late _))
 
 pub returns-then-disconnected : goal.returns-then-disconnected
 unfolding send_on
@@ -77,7 +77,7 @@ returns-then-not-free c =
     let fails : Bool = let a = c.args in hears_return a.p.index a.l && not (eqb a.l.outcome tpev_svc_succ) in
     let going : fails ≡ false = rw c.hears_return-over.ensures at c.if-failed.false in
     let bound = rw c.is_sender-sender.ensures at c.if-not-free.true in
-    (refused c.coded-then-not-free.ensures (talks _ _ ∙ pick_false _ _ _ going ∙ pick_false _ _ _ bound))
+    (refused refl (talks _ _ ∙ pick_false _ _ _ going ∙ pick_false _ _ _ bound))
 
 pub returns-then-l-ge-UNREAD : goal.returns-then-l-ge-UNREAD
 unfolding send_on
@@ -95,7 +95,7 @@ returns-then-l-ge-UNREAD c =
     let going : fails ≡ false = rw c.hears_return-over.ensures at c.if-failed.false in
     let free = rw c.is_sender-sender.ensures at c.if-not-free.false in
     let full = le-ltb _ _ c.if-l-ge-UNREAD.true in
-    (refused c.coded-then-l-ge-UNREAD.ensures (talks _ _ ∙ pick_false _ _ _ going ∙ pick_true _ _ _ free ∙ pick_false _ _ _ full))
+    (refused refl (talks _ _ ∙ pick_false _ _ _ going ∙ pick_true _ _ _ free ∙ pick_false _ _ _ full))
 
 pub put_link-requires : goal.put_link-requires
 put_link-requires c =

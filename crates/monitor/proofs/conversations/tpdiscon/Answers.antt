@@ -1,5 +1,5 @@
 -- `conversations::tpdiscon` meets its contract. To set a transaction rollback-only leaves the links, and so the link's place.
-use Rattle.monitor.proofs.Usual.{◌≡◌, ap, ap₂, sym, ◌∙◌, arith, Link, Monitor, pick_true, pick_false, link_of}
+use Rattle.monitor.proofs.Usual.{refl, ◌≡◌, ap, ap₂, sym, ◌∙◌, arith, Link, Monitor, pick_true, pick_false, link_of}
 use Rattle.monitor.proofs.Usual.{rollback_only_tx, originator_end, disconnected_at, disconnect_of, view, ruled_by, count_kept, found_some}
 use Rattle.rules.specs.Record.{place_of}
 use Rattle.monitor.proofs.Talking.{refused, no_originator, stands}
@@ -9,7 +9,7 @@ pub returns-in_default : goal.returns-in_default
 unfolding disconnect_of
 returns-in_default c =
     let none = no_originator c.args.s.now c.args.a c.requires c.find_link.ensures c.in_default.is c.args.p.index in
-    (refused c.coded.ensures (pick_false _ _ _ none))
+    (refused refl (pick_false _ _ _ none))
 
 pub link_at-l-requires : goal.link_at-l-requires
 link_at-l-requires c = omega (arith, c.requires, (found_some _ _ c.find_link.ensures c.in-Some.is).1)
@@ -20,7 +20,7 @@ returns-then-not-own c =
     let link : let a = c.args in c.link_at-l.result ≡ link_of (view a.s.now) a.a = c.link_at-l.ensures ∙ stands c.args.s.now c.args.a c.requires c.find_link.ensures c.in-Some.is in
     let answer = sym c.is_originator_end-own.ensures ∙ c.if-not-own.true in
     let own = ap (originator_end c.args.p.index) (sym link) ∙ answer in
-    (refused c.coded-then-not-own.ensures (pick_false _ _ _ own))
+    (refused refl (pick_false _ _ _ own))
 
 pub disconnect_at-requires : goal.disconnect_at-requires
 disconnect_at-requires c =

@@ -1,5 +1,5 @@
 -- `conversations::tprecv` meets its contract.
-use Rattle.monitor.proofs.Usual.{ℕ, ◌≡◌, ap, ◌∙◌, arith, false, Monitor, pick_false, no_such_end, link_of, ruled, any_end, receive_on, receive_of, view, found_some}
+use Rattle.monitor.proofs.Usual.{refl, ℕ, ◌≡◌, ap, ◌∙◌, arith, false, Monitor, pick_false, no_such_end, link_of, ruled, any_end, receive_on, receive_of, view, found_some}
 use Rattle.monitor.proofs.Talking.{refused, no_end, stands}
 use Rattle.monitor.proofs.conversations.tprecv.Goals as goal
 
@@ -12,7 +12,7 @@ pub returns-in_default : goal.returns-in_default
 returns-in_default c =
     let a = c.args in
     let none = no_end a.s.now a.a c.requires c.find_link.ensures c.in_default.is a.p.index in
-    (refused c.coded.ensures (refuses (view a.s.now) a.p.index a.a none))
+    (refused refl (refuses (view a.s.now) a.p.index a.a none))
 
 pub link_at-l-requires : goal.link_at-l-requires
 link_at-l-requires c = omega (arith, c.requires, (found_some _ _ c.find_link.ensures c.in-Some.is).1)

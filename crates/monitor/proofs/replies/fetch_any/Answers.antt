@@ -1,5 +1,5 @@
 -- `replies::fetch_any` meets its contract.
-use Rattle.monitor.proofs.Usual.{ℕ, ◌≤◌, ◌<◌, ◌≡◌, ap, sym, ◌∙◌, List, Bool, true, not, arith, rules, ltb, lt-ltb, le-ltb, get_or, Link, Monitor, Ruled, fresh_link, is_returned, live, ask, timed_out, no_reply_yet}
+use Rattle.monitor.proofs.Usual.{refl, ℕ, ◌≤◌, ◌<◌, ◌≡◌, ap, sym, ◌∙◌, List, Bool, true, not, arith, rules, ltb, lt-ltb, le-ltb, get_or, Link, Monitor, Ruled, fresh_link, is_returned, live, ask, timed_out, no_reply_yet}
 use Rattle.monitor.proofs.Usual.{request_end, replied_end, fetch_any, view, link_in, live_at, pick_true, pick_false, live_long, sound_room, read_live, read_first, read_ended, found_some, found_none}
 use Rattle.rules.specs.Replies.{next_reply, fetched_any}
 use Rattle.rules.proofs.Changes.{place_fits}
@@ -26,7 +26,7 @@ pub returns-in_default : goal.returns-in_default
 unfolding fetch_any
 returns-in_default c =
     let none = none_passes c.args.s.now (request_end c.args.p.index) (sound_room _ c.requires) c.first_request_end.ensures c.in_default.is in
-    (refused c.coded.ensures (pick_false _ _ _ none))
+    (refused refl (pick_false _ _ _ none))
 
 pub has_expired_end-late-requires : goal.has_expired_end-late-requires
 has_expired_end-late-requires c = (sound_room _ c.requires, (found_some _ _ c.first_request_end.ensures c.in-Some.is).0)
@@ -37,7 +37,7 @@ returns-then-late c =
     let some_end : let a = c.args in let m = view a.s.now in fetch_any m a.p.index ≡ ask m (not c.has_expired_end-late.result) timed_out (rest m a.p.index) = let m = view c.args.s.now in
     let one = one_passes c.args.s.now (request_end c.args.p.index) (sound_room _ c.requires) c.first_request_end.ensures c.in-Some.is in
     pick_true _ _ _ one ∙ ap (λ (late : Bool). ask m (not late) timed_out (rest m c.args.p.index)) (sym c.has_expired_end-late.ensures) in
-    (refused c.coded-then-late.ensures (some_end ∙ pick_false _ _ _ (ap not c.if-late.true)))
+    (refused refl (some_end ∙ pick_false _ _ _ (ap not c.if-late.true)))
 
 pub next_reply-requires : goal.next_reply-requires
 next_reply-requires c = (sound_room _ c.requires, (found_some _ _ c.first_request_end.ensures c.in-Some.is).0)
@@ -51,7 +51,7 @@ returns-in_default-next_reply c =
     let none-late : let a = c.args in let m = view a.s.now in fetch_any m a.p.index ≡ rest m a.p.index = some_end ∙ pick_true _ _ _ (ap not c.if-late.false) in
     let m = view c.args.s.now in
     let none = le-ltb _ m.count (found_none _ _ c.next_reply.ensures c.in_default-next_reply.is) in
-    (refused c.coded-in_default-next_reply.ensures (none-late ∙ pick_false _ _ _ none))
+    (refused refl (none-late ∙ pick_false _ _ _ none))
 
 pub link_at-l-requires : goal.link_at-l-requires
 link_at-l-requires c =

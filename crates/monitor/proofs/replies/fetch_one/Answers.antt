@@ -1,5 +1,5 @@
 -- `replies::fetch_one` meets its contract.
-use Rattle.monitor.proofs.Usual.{ℕ, ◌≡◌, ap, sym, ◌∙◌, Bool, not, arith, rules, eq-eqb, ne_eqb, Monitor, Link, Ruled, is_returned, ask, no_such_end, timed_out, no_reply_yet}
+use Rattle.monitor.proofs.Usual.{refl, ℕ, ◌≡◌, ap, sym, ◌∙◌, Bool, not, arith, rules, eq-eqb, ne_eqb, Monitor, Link, Ruled, is_returned, ask, no_such_end, timed_out, no_reply_yet}
 use Rattle.monitor.proofs.Usual.{expired, fetched, fetch_one, view, pick_true, pick_false, sound_room, read_ended, found_some}
 use Rattle.monitor.proofs.Talking.{refused, no_request_end, on_request_end}
 use Rattle.monitor.proofs.replies.fetch_one.Goals as goal
@@ -18,7 +18,7 @@ pub returns-in_default : goal.returns-in_default
 unfolding fetch_one
 returns-in_default c =
     let none = no_request_end c.args.s.now c.args.a (sound_room _ c.requires) c.find_link.ensures c.in_default.is c.args.p.index in
-    (refused c.coded.ensures (pick_false _ _ _ none))
+    (refused refl (pick_false _ _ _ none))
 
 pub link_at-l-requires : goal.link_at-l-requires
 link_at-l-requires c =
@@ -29,7 +29,7 @@ unfolding fetch_one
 returns-then-not-own c =
     let found : let a = c.args in let m = view a.s.now in fetch_one m a.p.index a.a ≡ ask m c.is_request_end-own.result no_such_end (rest m a.a c.link_at-l.result) = let a = c.args in
     on_request_end a.s.now a.a (sound_room _ c.requires) c.find_link.ensures a.p.index (rest (view a.s.now) a.a) c.in-Some.is c.link_at-l.ensures c.is_request_end-own.ensures in
-    (refused c.coded-then-not-own.ensures (found ∙ pick_false _ _ _ (c.if-not-own.true)))
+    (refused refl (found ∙ pick_false _ _ _ (c.if-not-own.true)))
 
 pub returns-then-late : goal.returns-then-late
 unfolding fetch_one
@@ -40,7 +40,7 @@ returns-then-late c =
     found
     ∙ pick_true _ _ _ (c.if-not-own.false)
     ∙ ap (timely (view a.s.now) a.a c.link_at-l.result) (sym c.is_expired-late.ensures) in
-    (refused c.coded-then-late.ensures (own ∙ pick_false _ _ _ (ap not c.if-late.true)))
+    (refused refl (own ∙ pick_false _ _ _ (ap not c.if-late.true)))
 
 pub returns-then-l-ne2 : goal.returns-then-l-ne2
 unfolding fetch_one
@@ -52,7 +52,7 @@ returns-then-l-ne2 c =
     ∙ pick_true _ _ _ (c.if-not-own.false)
     ∙ ap (timely (view a.s.now) a.a c.link_at-l.result) (sym c.is_expired-late.ensures) in
     let r = own ∙ pick_true _ _ _ (ap not c.if-late.false) ∙ pick_false _ _ _ (ne_eqb _ _ c.if-l-ne2.true) in
-    (refused c.coded-then-l-ne2.ensures r)
+    (refused refl r)
 
 pub fetch-requires : goal.fetch-requires
 fetch-requires c =

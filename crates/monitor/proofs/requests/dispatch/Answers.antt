@@ -1,5 +1,5 @@
 -- `requests::dispatch` meets its contract.
-use Rattle.monitor.proofs.Usual.{ℕ, ap, sym, ◌∙◌, arith, ltb, lt-ltb, le-ltb, dispatched, dispatch_of, view, live_at, pick_true, pick_false, live_in, found_some, found_none}
+use Rattle.monitor.proofs.Usual.{refl, ℕ, ap, sym, ◌∙◌, arith, ltb, lt-ltb, le-ltb, dispatched, dispatch_of, view, live_at, pick_true, pick_false, live_in, found_some, found_none}
 use Rattle.monitor.proofs.Talking.{refused}
 use Rattle.monitor.proofs.requests.dispatch.Goals as goal
 
@@ -7,14 +7,14 @@ pub returns-then-not-idle : goal.returns-then-not-idle
 unfolding dispatch_of
 returns-then-not-idle c =
     let busy = sym c.is_idle-idle.ensures ∙ c.if-not-idle.true in
-    (refused c.coded.ensures (pick_false _ _ _ busy))
+    (refused refl (pick_false _ _ _ busy))
 
 pub returns-in_default : goal.returns-in_default
 unfolding dispatch_of
 returns-in_default c =
     let idle = sym c.is_idle-idle.ensures ∙ c.if-not-idle.false in
     let none = le-ltb _ _ (found_none _ _ c.next_waiting.ensures c.in_default.is) in
-    (refused c.coded-in_default.ensures (pick_true _ _ _ idle ∙ pick_false _ _ _ none))
+    (refused refl (pick_true _ _ _ idle ∙ pick_false _ _ _ none))
 
 pub link_at-l-requires : goal.link_at-l-requires
 link_at-l-requires c = omega (arith, c.requires, (found_some _ _ c.next_waiting.ensures c.in-Some.is).1)

@@ -1,5 +1,5 @@
 -- `returns::tpreturn` meets its contract.
-use Rattle.monitor.proofs.Usual.{ℕ, ◌≡◌, ap, sym, ◌∙◌, true, not, ◌||◌, eq-eqb, ne_eqb, eqb, Link, Monitor, Ruled}
+use Rattle.monitor.proofs.Usual.{refl, ℕ, ◌≡◌, ap, sym, ◌∙◌, true, not, ◌||◌, eq-eqb, ne_eqb, eqb, Link, Monitor, Ruled}
 use Rattle.monitor.proofs.Usual.{party, link_of, outcome_of, return_with, return_of, Told, view, ruled_by, pick_true, pick_false, live_of}
 use Rattle.rules.specs.Codes.{tp_success, tp_fail}
 use Rattle.monitor.proofs.returns.tpreturn.Goals as goal
@@ -17,14 +17,14 @@ pub returns-then-d-eq0 : goal.returns-then-d-eq0
 unfolding return_of
 returns-then-d-eq0 c =
     let serves-none = eq-eqb _ _ (sym c.served_at-d.ensures ∙ c.if-d-eq0.true) in
-    (ap (λ (t : Told). ruled_by t (view c.args.s.now)) c.coded.ensures ∙ sym (pick_false _ _ _ (ap not serves-none)))
+    (ap (λ (t : Told). ruled_by t (view c.args.s.now)) refl ∙ sym (pick_false _ _ _ (ap not serves-none)))
 
 pub returns-then-not-good : goal.returns-then-not-good
 unfolding return_of
 returns-then-not-good c =
     let serves = ne_eqb _ _ (λ h. c.if-d-eq0.false (c.served_at-d.ensures ∙ h)) in
     let r = pick_true _ _ _ (ap not serves) ∙ pick_false _ _ _ (c.if-not-good.true) in
-    (ap (λ (t : Told). ruled_by t (view c.args.s.now)) c.coded-then-not-good.ensures ∙ sym r)
+    (ap (λ (t : Told). ruled_by t (view c.args.s.now)) refl ∙ sym r)
 
 pub returns : goal.returns
 returns c =

@@ -1,5 +1,5 @@
 -- `services::tpadvertise` meets its contract: each question refused, and the set with the service.
-use Rattle.monitor.proofs.Usual.{ℕ, ◌≡◌, ap, ap₂, sym, ◌∙◌, Bool, ◌||◌, ltb, pick_true, pick_false, Monitor, Party, Ruled, ask, no_room_left}
+use Rattle.monitor.proofs.Usual.{refl, ℕ, ◌≡◌, ap, ap₂, sym, ◌∙◌, Bool, ◌||◌, ltb, pick_true, pick_false, Monitor, Party, Ruled, ask, no_room_left}
 use Rattle.monitor.proofs.Usual.{offers, may_advertise, with_service, offers_now, advertise_of, view}
 use Rattle.rules.specs.Codes.{not_permitted}
 use Rattle.rules.specs.Services.{offered}
@@ -17,11 +17,11 @@ right m p a q may = ask m may not_permitted (room m p a q (offers a q) (offered 
 
 pub returns-then-a-lt1 : goal.returns-then-a-lt1
 unfolding advertise_of
-returns-then-a-lt1 c = (refused c.coded.ensures (pick_false _ _ _ (below_services _ c.if-a-lt1.true)))
+returns-then-a-lt1 c = (refused refl (pick_false _ _ _ (below_services _ c.if-a-lt1.true)))
 
 pub returns-then-a-gt64 : goal.returns-then-a-gt64
 unfolding advertise_of
-returns-then-a-gt64 c = (refused c.coded-then-a-gt64.ensures (pick_false _ _ _ (above_services _ c.if-a-gt64.true)))
+returns-then-a-gt64 c = (refused refl (pick_false _ _ _ (above_services _ c.if-a-gt64.true)))
 
 pub returns-then-not-permitted : goal.returns-then-not-permitted
 unfolding advertise_of may_advertise
@@ -31,7 +31,7 @@ returns-then-not-permitted c =
     let q = c.party_at-q in
     of_service m a.p.index a.a (λ (x : Party). right m a.p.index a.a x (may_advertise a.a x)) c.if-a-lt1.false c.if-a-gt64.false q.ensures
     ∙ ap (right m a.p.index a.a q.result) (sym c.in_set-permitted.ensures) in
-    (refused c.coded-then-not-permitted.ensures (asked ∙ pick_false _ _ _ (c.if-not-permitted.true)))
+    (refused refl (asked ∙ pick_false _ _ _ (c.if-not-permitted.true)))
 
 pub returns-then-not-may : goal.returns-then-not-may
 unfolding advertise_of may_advertise
@@ -45,7 +45,7 @@ returns-then-not-may c =
     let m = view a.s.now in
     asked ∙ pick_true _ _ _ (c.if-not-permitted.false)
     ∙ sym (ap₂ (room m a.p.index a.a c.party_at-q.result) c.is_offering-has.ensures c.service_count-some.ensures) in
-    (refused c.coded-then-not-may.ensures (permitted ∙ pick_false _ _ _ (c.if-not-may.true)))
+    (refused refl (permitted ∙ pick_false _ _ _ (c.if-not-may.true)))
 
 pub returns : goal.returns
 unfolding advertise_of may_advertise

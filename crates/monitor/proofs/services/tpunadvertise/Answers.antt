@@ -1,5 +1,5 @@
 -- `services::tpunadvertise` meets its contract: each question refused, and the set without the service.
-use Rattle.monitor.proofs.Usual.{ℕ, ◌≡◌, ap, sym, ◌∙◌, Bool, pick_true, pick_false, Monitor, Party, Ruled, ask, offers, offers_now, unadvertise_of, view}
+use Rattle.monitor.proofs.Usual.{refl, ℕ, ◌≡◌, ap, sym, ◌∙◌, Bool, pick_true, pick_false, Monitor, Party, Ruled, ask, offers, offers_now, unadvertise_of, view}
 use Rattle.rules.specs.Codes.{not_offered}
 use Rattle.rules.specs.Services.{without_service}
 use Rattle.monitor.proofs.Sets.{below_services, above_services, of_service}
@@ -12,11 +12,11 @@ rest m p a q has = ask m has not_offered (offers_now m p (without_service q.serv
 
 pub returns-then-a-lt1 : goal.returns-then-a-lt1
 unfolding unadvertise_of
-returns-then-a-lt1 c = (refused c.coded.ensures (pick_false _ _ _ (below_services _ c.if-a-lt1.true)))
+returns-then-a-lt1 c = (refused refl (pick_false _ _ _ (below_services _ c.if-a-lt1.true)))
 
 pub returns-then-a-gt64 : goal.returns-then-a-gt64
 unfolding unadvertise_of
-returns-then-a-gt64 c = (refused c.coded-then-a-gt64.ensures (pick_false _ _ _ (above_services _ c.if-a-gt64.true)))
+returns-then-a-gt64 c = (refused refl (pick_false _ _ _ (above_services _ c.if-a-gt64.true)))
 
 pub returns-then-not-has : goal.returns-then-not-has
 unfolding unadvertise_of
@@ -26,7 +26,7 @@ returns-then-not-has c =
     let q = c.party_at-q in
     of_service m a.p.index a.a (λ q. rest m a.p.index a.a q (offers a.a q)) c.if-a-lt1.false c.if-a-gt64.false q.ensures
     ∙ sym (ap (rest m a.p.index a.a q.result) c.is_offering-has.ensures) in
-    (refused c.coded-then-not-has.ensures (asked ∙ pick_false _ _ _ (c.if-not-has.true)))
+    (refused refl (asked ∙ pick_false _ _ _ (c.if-not-has.true)))
 
 pub without_service-set-requires : goal.without_service-set-requires
 unfolding offers

@@ -1,19 +1,19 @@
 -- `tx::tx_commit` meets its contract: the owner's transaction ends, and the party goes on with the commit's code.
 use mathlib.Core.Path.{subst}
 use Rattle.monitor.specs.Ending.{EndCode}
-use Rattle.monitor.proofs.Usual.{not, ℕ, ◌≡◌, ap, ap₂, sym, ◌∙◌, List, rules, to_z, of_z, w64, go_on, commit_code, all_can_start, commit_of, view}
+use Rattle.monitor.proofs.Usual.{refl, not, ℕ, ◌≡◌, ap, ap₂, sym, ◌∙◌, List, rules, to_z, of_z, w64, go_on, commit_code, all_can_start, commit_of, view}
 use Rattle.monitor.proofs.Telling.{blank_told, stranger_told, owner_told, first_of_owned}
 use Rattle.monitor.proofs.tx.tx_commit.Goals as goal
 
 pub returns-in_default : goal.returns-in_default
 unfolding commit_of
-returns-in_default c = (blank_told _ _ _ _ c.coded.ensures c.in_default.ensures)
+returns-in_default c = (blank_told _ _ _ _ refl c.in_default.ensures)
 
 pub returns-then-not-own : goal.returns-then-not-own
 unfolding commit_of
 returns-then-not-own c =
     let e = c.in-Some.ensures in
-    (stranger_told _ _ _ _ e _ _ c.is_owner-own.ensures c.coded-then-not-own.ensures (ap not c.if-not-own.true))
+    (stranger_told _ _ _ _ e _ _ c.is_owner-own.ensures refl (ap not c.if-not-own.true))
 
 pub can_commit-can-requires : goal.can_commit-can-requires
 can_commit-can-requires c =

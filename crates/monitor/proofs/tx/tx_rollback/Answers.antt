@@ -5,13 +5,13 @@ use Rattle.monitor.proofs.tx.tx_rollback.Goals as goal
 
 pub returns-in_default : goal.returns-in_default
 unfolding rollback_of
-returns-in_default c = (blank_told _ _ _ _ c.coded.ensures c.in_default.ensures)
+returns-in_default c = (blank_told _ _ _ _ refl c.in_default.ensures)
 
 pub returns-then-not-own : goal.returns-then-not-own
 unfolding rollback_of
 returns-then-not-own c =
     let e = c.in-Some.ensures in
-    (stranger_told _ _ _ _ e _ _ c.is_owner-own.ensures c.coded-then-not-own.ensures (ap not c.if-not-own.true))
+    (stranger_told _ _ _ _ e _ _ c.is_owner-own.ensures refl (ap not c.if-not-own.true))
 
 pub end_tx-requires : goal.end_tx-requires
 end_tx-requires c =

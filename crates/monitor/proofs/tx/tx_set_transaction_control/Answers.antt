@@ -24,13 +24,13 @@ chained_next S4 x e = let o = control_odd x in omega arith
 
 pub returns-in_default : goal.returns-in_default
 unfolding control_of
-returns-in_default c = (blank_told _ _ _ _ c.coded.ensures c.in_default.ensures)
+returns-in_default c = (blank_told _ _ _ _ refl c.in_default.ensures)
 
 pub returns-then-a-gt1 : goal.returns-then-a-gt1
 unfolding control_of
 returns-then-a-gt1 c =
     let bad = lt-leb _ _ c.if-a-gt1.true in
-    (passed_told _ _ _ _ c.in-Some.ensures _ _ c.coded-then-a-gt1.ensures (sym (pick_false _ _ _ bad)))
+    (passed_told _ _ _ _ c.in-Some.ensures _ _ refl (sym (pick_false _ _ _ bad)))
 
 pub returns : goal.returns
 unfolding control_of
@@ -44,4 +44,4 @@ returns c =
       | else-a-eq0 w ↦ let is = ap state_number (w.next-is ∙ w.chained-next.ensures) in omega (arith, e, chained_next _ _ e)
     ] in
     let r = ap (λ (m : Monitor). ruled m tx_ok) (n ∙ ap (entered (view a.s.now) a.p.index) number) in
-    (passed_told _ _ _ _ e _ _ c.coded-2.ensures (r ∙ sym (pick_true _ _ _ (le-leb _ _ c.if-a-gt1.false))))
+    (passed_told _ _ _ _ e _ _ c.coded.ensures (r ∙ sym (pick_true _ _ _ (le-leb _ _ c.if-a-gt1.false))))

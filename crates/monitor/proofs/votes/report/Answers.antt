@@ -1,7 +1,7 @@
 -- `votes::report` meets its contract: each question refused, and the report in its place.
 use Rattle.rules.specs.Record.{reporting}
 use Rattle.rules.specs.Votes.{is_report}
-use Rattle.monitor.proofs.Usual.{ℕ, ◌≡◌, ap, ap₂, sym, ◌∙◌, true, false, le-leb, lt-leb, Party, party, with_party, view, ruled_by}
+use Rattle.monitor.proofs.Usual.{refl, ℕ, ◌≡◌, ap, ap₂, sym, ◌∙◌, true, false, le-leb, lt-leb, Party, party, with_party, view, ruled_by}
 use Rattle.monitor.proofs.Usual.{report_of, pick_true, pick_false}
 use Rattle.monitor.proofs.Talking.{refused}
 use Rattle.monitor.proofs.votes.report.Goals as goal
@@ -10,7 +10,7 @@ use Rattle.monitor.proofs.votes.report.Goals.{then-a-gt3-via-then-a-gt3, then-a-
 pub returns-then-not-is_owner : goal.returns-then-not-is_owner
 unfolding report_of
 returns-then-not-is_owner c =
-    (refused c.coded.ensures (pick_false _ _ _ (sym c.is_owner.ensures ∙ c.if-not-is_owner.true)))
+    (refused refl (pick_false _ _ _ (sym c.is_owner.ensures ∙ c.if-not-is_owner.true)))
 
 pub returns-then-a-gt3 : goal.returns-then-a-gt3
 unfolding report_of
@@ -22,7 +22,7 @@ returns-then-a-gt3 c =
       | then-a-gt3-via-else-a-gt3+then-b-gt6 w ↦ rw (le-leb _ _ w.if-a-gt3.false, lt-leb _ _ w.if-b-gt6.true)
       | then-a-gt3-via-else-a-gt3+else-b-gt6+then-c-gt1 w ↦ rw (le-leb _ _ w.if-a-gt3.false, le-leb _ _ w.if-b-gt6.false, lt-leb _ _ w.if-c-gt1.true)
     ] in
-    (refused c.coded-then-a-gt3.ensures (own ∙ pick_false _ _ _ unknown))
+    (refused refl (own ∙ pick_false _ _ _ unknown))
 
 pub returns : goal.returns
 unfolding report_of
