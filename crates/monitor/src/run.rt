@@ -35,14 +35,12 @@ pub(crate) fn put(out: &mut [i64], at: usize, r: Answer)
     requires { at + 6 ≤ length out.old }
     ensures { out.new ≡ take at out.old ++ places_of r ++ drop (at + 6) out.old }
 {
-    out[at..at + 6].copy_from_slice(&[
-        r.code,
-        i64::from(r.value),
-        i64::from(r.event),
-        i64::from(r.token),
-        i64::from(r.service),
-        i64::from(r.tx),
-    ]);
+    out[at] = r.code;
+    out[at + 1] = i64::from(r.value);
+    out[at + 2] = i64::from(r.event);
+    out[at + 3] = i64::from(r.token);
+    out[at + 4] = i64::from(r.service);
+    out[at + 5] = i64::from(r.tx);
 }
 
 // n calls, one after the other.
