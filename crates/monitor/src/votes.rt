@@ -28,22 +28,22 @@ pub(crate) fn report_is(b: u32, r: u32) -> bool
     requires { b ≤ 6 }
     ensures { result ≡ report_is b r }
 {
-    (r == 1 + b) | (r == 8 + b)
+    r == 1 + b || r == 8 + b
 }
 
-// Has a manager reported b? Here and below by `|` and `&`: with `any`, `all`, `||` and `&&` a list of calls took 1.08 times as long.
+// Has a manager reported b?
 pub(crate) fn some_report(b: u32, rs: [u32; 4]) -> bool
     requires { b ≤ 6 }
     ensures { result ≡ any_of (report_is b) rs }
 {
-    report_is(b, rs[0]) | report_is(b, rs[1]) | report_is(b, rs[2]) | report_is(b, rs[3])
+    rs.iter().any(|&r| report_is(b, r))
 }
 
 // Can all managers start a new transaction?
 pub(crate) fn all_can_start(rs: [u32; 4]) -> bool
     ensures { result ≡ all_can_start rs }
 {
-    (rs[0] < 8) & (rs[1] < 8) & (rs[2] < 8) & (rs[3] < 8)
+    rs.iter().all(|&r| r < 8)
 }
 
 // The code by the decision, and whether a manager is mixed, is a hazard, counts as committed, counts as rolled back.
@@ -57,7 +57,7 @@ pub(crate) fn vote_code(
 ) -> i64
     ensures { (result ≡ vote_code decision mixed hazard committed back) × EndCode result }
 {
-    if mixed | (committed & back) {
+    if mixed || committed && back {
         codes::TX_MIXED
     } else if hazard {
         codes::TX_HAZARD
@@ -85,13 +85,13 @@ pub(crate) fn commit_code(can: bool, rs: [u32; 4]) -> i64
     let back = some_report(4, rs);
     let mixed = some_report(5, rs);
     let hazard = some_report(6, rs);
-    let decision = can & !veto;
+    let decision = can && !veto;
     vote_code(
         decision,
         mixed,
         hazard,
-        committed | (decision & prepared),
-        back | veto | (!decision & prepared),
+        committed || decision && prepared,
+        back || veto || !decision && prepared,
     )
 }
 

@@ -1,7 +1,6 @@
 -- six stores, one after the other
 use Rattle.monitor.proofs.Usual.{ℕ, suc, ◌+◌, ◌≤◌, ◌≡◌, ◌∙◌, List, [], ◌∷◌, ◌++◌, arith, rules, length, take}
-use Rattle.monitor.proofs.Usual.{drop, set, ℤ, pos, w64, to_z, of_z, to_z_pos, places_of}
-use lib.ListN.{length-set}
+use Rattle.monitor.proofs.Usual.{drop, set, ℤ, w64, to_z, of_z, places_of}
 use lib.Seq.{sets-eq}
 use Rattle.monitor.proofs.run.put.Goals as goal
 

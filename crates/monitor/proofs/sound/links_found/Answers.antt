@@ -1,6 +1,6 @@
 -- `sound::links_found` meets its contract. The invariant: what is found so far, and then of the links from place i on, is what all links give.
-use Rattle.monitor.proofs.Usual.{ℕ, ◌≡◌, refl, ap, sym, ◌∙◌, List, Bool, true, false, ◌&&◌, arith, eqb, ltb, leb, get_or, pick}
-use Rattle.monitor.proofs.Usual.{eq-eqb, ne_eqb, lt-ltb, le-ltb, party, link_good, view, end_live}
+use Rattle.monitor.proofs.Usual.{ℕ, ◌≡◌, refl, ap, sym, ◌∙◌, List, Bool, true, ◌&&◌, arith, eqb, ltb, leb, get_or, pick}
+use Rattle.monitor.proofs.Usual.{party, link_good, view, end_live}
 use Rattle.rules.specs.Record.{is_working}
 use Rattle.rules.proofs.Logic.{and_r, not_both}
 use Rattle.monitor.specs.Served.{served_by}

@@ -1,5 +1,5 @@
 -- `sound::parties_found` meets its contract.
-use Rattle.monitor.proofs.Usual.{◌≡◌, ap, sym, ◌∙◌, Bool, false, ◌&&◌, arith, eqb, eq-eqb, ne_eqb, get_or, view, end_party}
+use Rattle.monitor.proofs.Usual.{ap, sym, ◌∙◌, Bool, ◌&&◌, arith, eqb, get_or, view, end_party}
 use Rattle.monitor.proofs.Checks.{parties_over, party_passed, party_failed}
 use Rattle.monitor.proofs.Comparing.{party_read}
 use Rattle.monitor.proofs.Served.{party_tested}

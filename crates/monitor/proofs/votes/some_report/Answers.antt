@@ -1,10 +1,12 @@
 -- `votes::some_report` meets its contract.
-use Rattle.monitor.proofs.Usual.{◌≡◌, ◌∙◌, ◌||◌, rules, length, report_is}
-use Rattle.monitor.proofs.Reports.{some_of_four}
+use Rattle.monitor.proofs.Usual.{◌∙◌, rules, report_is}
+use borrow.Author.Tests.{tests}
+use Rattle.std.proofs.lemmas.Iterator.{YieldsList-from_slice}
+use Rattle.std.proofs.lemmas.Iterator.Search.{any_from_yields_List}
+use Rattle.monitor.proofs.Reports.{some_pass}
 use Rattle.monitor.proofs.votes.some_report.Goals as goal
 
 pub returns : goal.returns
 returns c =
-    let a = c.args in
-    let n : length a.rs ≡ 4 = search rules in
-    (λ z. ((c.report_is.ensures z || c.report_is-2.ensures z) || c.report_is-3.ensures z) || c.report_is-4.ensures z) ∙ some_of_four (report_is a.b) a.rs n
+    let rs = c.args.rs in
+    any_from_yields_List (report_is c.args.b) _ _ _ c.any.ensures.ran (YieldsList-from_slice rs (cc)) (λ x b q k. search (rules, tests)) ∙ some_pass (report_is c.args.b) rs
