@@ -56,6 +56,7 @@ fn encode_rest(buffer: &mut [u8], place: usize, value: u32) -> usize
 {
     let mut rest = value;
     let mut at = place;
+    // What is left of the number ends the loop, so a `for` over the buffer would be no plainer.
     while 128 <= rest {
         buffer[at] = (rest % 128 + 128) as u8;
         rest /= 128;
