@@ -1,5 +1,6 @@
 pub mod Agreement
-pub mod Joined
-pub mod Padding
-pub mod RoundTrip
+pub mod Kept
+pub mod Meaning
 pub mod Requests
+pub mod RoundTrip
+pub mod Shapes

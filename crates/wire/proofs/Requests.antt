@@ -32,11 +32,9 @@ use Rattle.rules.proofs.Looks.{look_link_of}
 use Rattle.rules.proofs.Changes.{added_new}
 use Rattle.rules.proofs.Sound.{sound_fine, clock_fine}
 use Rattle.rules.proofs.History.Walk.Requests.{added_tx}
-use Rattle.wire.specs.declared.sequence.Outgoing.{Outgoing}
 use Rattle.wire.specs.Sequences.{request, is_writable}
-use Rattle.wire.specs.Entries.{bytes_of, wrote, as_written, wire_answer, outgoing, is_accepted, some_tx, outgoing_of, of_link}
+use Rattle.wire.specs.Entries.{Written, Outgoing, bytes_of, wrote, as_written, wire_answer, outgoing, is_accepted, some_tx, outgoing_of, of_link}
 use Rattle.wire.specs.declared.sequence.Request.{Request}
-use Rattle.wire.specs.declared.writer.Written.{Written}
 use Rattle.wire.proofs.RoundTrip.{eleven_bytes}
 
 -- ---- the rule

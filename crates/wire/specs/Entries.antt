@@ -9,16 +9,18 @@ use Rattle.rules.specs.Requests.{no_reply, no_tran}
 use Rattle.rules.specs.declared.Call.{Call}
 use Rattle.rules.specs.declared.Answer.{Answer}
 use Rattle.rules.specs.declared.Link.{Link}
-use Rattle.wire.specs.Sequences.{request, no_request, read_refused, sequence_of, is_writable, meaning_of}
+use Rattle.wire.specs.Sequences.{Read, request, no_request, read_refused, sequence_of, is_writable, meaning_of}
 use Rattle.wire.specs.declared.sequence.Request.{Request}
-use Rattle.wire.specs.declared.sequence.Outgoing.{Outgoing}
-use Rattle.wire.specs.declared.reader.Read.{Read}
-use Rattle.wire.specs.declared.writer.Written.{Written}
 
 -- ---- writing
 -- a request's bytes
 abbrev pub bytes_of : Request → List ℕ
 bytes_of r = numbers_bytes (sequence_of r)
+
+-- what writing tells: 0 and how many bytes were written, or a refusal and 0
+pub record Written : Type 0 where
+  pub code : ℤ
+  pub length : ℕ
 
 abbrev pub wrote : ℤ → ℕ → Written
 wrote code length = record { code = code; length = length }
@@ -47,6 +49,10 @@ read_of input = read_from (all_numbers input)
 
 -- ---- a call
 -- how many requests are to be written, 1 or 0, and which
+pub record Outgoing : Type 0 where
+  pub count : ℕ
+  pub request : Request
+
 abbrev pub outgoing : ℕ → Request → Outgoing
 outgoing count r = record { count = count; request = r }
 

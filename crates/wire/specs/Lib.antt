@@ -1,3 +1,3 @@
 pub mod Sequences
 pub mod Entries
-pub mod Padded
+pub mod Answers

@@ -1,11 +1,10 @@
 -- OSI TP's primitives for a request (document 003, section 13.6.2) as numbers: the three sequences, and what a list of numbers says.
 -- Assumes nothing.
-use Rattle.std.specs.Prelude.{ℕ, Bool, true, not, ◌&&◌, ◌||◌, List, [], ◌∷◌, eqb, leb, ℤ, length, get_or}
+use Rattle.std.specs.Prelude.{◌≡◌, ℕ, Bool, true, not, ◌&&◌, ◌||◌, List, [], ◌∷◌, eqb, leb, ℤ, length, get_or}
 use Rattle.rules.specs.Choice.{pick}
 use Rattle.rules.specs.Codes.{sequence_done, no_such_sequence}
 use Rattle.rules.specs.Services.{is_service}
 use Rattle.wire.specs.declared.sequence.Request.{Request}
-use Rattle.wire.specs.declared.reader.Read.{Read}
 
 -- "The primitives are numbered 1 to 5 in the order of their first naming"
 abbrev pub tp_begin_dialogue : ℕ
@@ -48,6 +47,11 @@ sequence_of r =
     (pick (of_tx r) (with_reply_in_tx r.service r.token) (with_reply r.service r.token))
     (without_reply r.service r.token)
 
+-- These numbers are the request's, and its yes and no are those of a request that can be written.
+pub record IsSequenceOf (r : Request) (values : List ℕ) : Type 0 where
+  pub same : values ≡ sequence_of r
+  pub flags : leb r.reply 1 && (leb r.tx 1 && (wants_reply r || not (of_tx r))) ≡ true
+
 -- a field that says yes or no is 1 or 0
 abbrev pub says_yes_or_no : ℕ → Bool
 says_yes_or_no n = leb n 1
@@ -61,6 +65,10 @@ abbrev pub request : ℕ → ℕ → ℕ → ℕ → Request
 request service token reply tx = record { service = service; token = token; reply = reply; tx = tx }
 
 -- what reading tells: 0 and the request, or a refusal and zeros
+pub record Read : Type 0 where
+  pub code : ℤ
+  pub request : Request
+
 abbrev pub read_as : ℤ → Request → Read
 read_as code r = record { code = code; request = r }
 

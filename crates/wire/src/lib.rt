@@ -6,6 +6,6 @@ mod reader;
 mod sequence;
 mod writer;
 
-pub use reader::{Read, wire_read};
-pub use sequence::{Outgoing, Request, wire_of};
-pub use writer::{Written, wire_write};
+pub use reader::{ReadError, wire_read};
+pub use sequence::{Request, wire_of};
+pub use writer::{WriteError, wire_write};

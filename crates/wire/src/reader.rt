@@ -1,141 +1,71 @@
 // The reader: which request a slice of bytes says.
-ghost use Rattle.std.specs.Prelude.{◌≡◌, ◌&&◌, eqb};
-ghost use Rattle.wire.specs.Sequences.{agree};
+ghost use Rattle.std.specs.Prelude.{◌≡◌, IfOk, IfErr};
+ghost use Rattle.wire.specs.Sequences.{meaning_of};
 ghost use Rattle.wire.specs.Entries.{read_of};
-ghost use Rattle.wire.specs.Padded.{kept, padded_says, padded_meaning};
+ghost use Rattle.wire.specs.Answers.{read_code, read_told};
 
-use super::sequence::{Request, Sequence, is_service, no_request, sequence_of};
-use number::Decoded;
+use super::sequence::{Request, is_service, request_of};
+use arrayvec::ArrayVec;
 use rules::codes;
 
-// What reading tells: 0 and the request, or a refusal and zeros.
-#[repr(C)]
-#[derive(Clone, Copy)]
-pub struct Read {
-    pub code: i64,
-    pub request: Request,
+// Why no request is read.
+#[derive(Clone, Copy, Debug, PartialEq, Eq)]
+pub enum ReadError {
+    // a number is cut short
+    CutShort,
+    // a number is too long, too large, or longer than needed
+    Malformed,
+    // the numbers are no request's
+    NoSuchSequence,
 }
 
-// One number more.
-fn keep(s: Sequence, value: u32) -> Sequence
-    ensures { result ≡ kept s value }
-{
-    let mut numbers = s.numbers;
-    let count = s.count;
-    if count < 7 {
-        numbers[count] = value;
-        return Sequence {
-            numbers,
-            count: count + 1,
-        };
-    }
-    Sequence { numbers, count: 8 }
-}
-
-// Are the two the same, number by number?
-fn is_same(a: Sequence, b: Sequence) -> bool
-    ensures { result ≡ eqb a.count b.count && agree a.numbers b.numbers }
-{
-    if a.count != b.count {
-        return false;
-    }
-    let mut i = 0;
-    while i < 7 {
-        if a.numbers[i] != b.numbers[i] {
-            return false;
+impl ReadError {
+    // The refusal's number.
+    pub fn code(self) -> i64
+        ensures { result ≡ read_code self }
+    {
+        match self {
+            ReadError::CutShort => codes::CUT_SHORT,
+            ReadError::Malformed => codes::MALFORMED,
+            ReadError::NoSuchSequence => codes::NO_SUCH_SEQUENCE,
         }
-        i += 1;
     }
-    true
 }
 
-// Are these the numbers of the request, and is its service one of 1 to 64?
-fn says(s: Sequence, r: Request) -> bool
-    ensures { result ≡ padded_says s r }
-{
-    let service = is_service(r.service);
-    let same = is_same(s, sequence_of(r));
-    service & same
+impl From<number::ReadError> for ReadError {
+    ghost use Rattle.wire.specs.Answers.{number_refusal};
+
+    ghost from_gives = { λ e own. own ≡ number_refusal e };
+
+    fn from(error: number::ReadError) -> ReadError {
+        match error {
+            number::ReadError::CutShort => ReadError::CutShort,
+            number::ReadError::Malformed => ReadError::Malformed,
+        }
+    }
 }
 
-// The request of the sequence that these numbers are, else 33.
-fn meaning(s: Sequence) -> Read
-    ensures { result ≡ padded_meaning s }
+// The request that these numbers say.
+#[tactic(auto, using(crate::proofs::Meaning::says_its_own, crate::proofs::Meaning::says_no_service, crate::proofs::Meaning::says_none))]
+fn meaning(numbers: &[u32]) -> Result<Request, ReadError>
+    ensures { read_told result ≡ meaning_of numbers.now }
 {
-    let in_tx = Request {
-        service: s.numbers[4],
-        token: s.numbers[5],
-        reply: 1,
-        tx: 1,
-    };
-    let is_in_tx = says(s, in_tx);
-    if is_in_tx {
-        return Read {
-            code: codes::SEQUENCE_DONE,
-            request: in_tx,
-        };
-    }
-    let replied = Request {
-        service: s.numbers[3],
-        token: s.numbers[4],
-        reply: 1,
-        tx: 0,
-    };
-    let is_replied = says(s, replied);
-    if is_replied {
-        return Read {
-            code: codes::SEQUENCE_DONE,
-            request: replied,
-        };
-    }
-    let unreplied = Request {
-        service: s.numbers[3],
-        token: s.numbers[4],
-        reply: 0,
-        tx: 0,
-    };
-    let is_unreplied = says(s, unreplied);
-    if is_unreplied {
-        return Read {
-            code: codes::SEQUENCE_DONE,
-            request: unreplied,
-        };
-    }
-    Read {
-        code: codes::NO_SUCH_SEQUENCE,
-        request: no_request(),
-    }
+    request_of(numbers)
+        .filter(|r| is_service(r.service))
+        .ok_or(ReadError::NoSuchSequence)
 }
 
 // Reads every number of the input, of which the first bad one decides, 17 or 18; then what they say, or 33.
-pub fn wire_read(input: &[u8]) -> Read
-    ensures { result ≡ read_of input.now }
+pub fn wire_read(input: &[u8]) -> Result<Request, ReadError>
+    ensures { read_told result ≡ read_of input.now }
 {
-    let mut s = Sequence {
-        numbers: [0; 7],
-        count: 0,
-    };
+    // Eight numbers are no request's, whatever follows.
+    let mut numbers = ArrayVec::<u32, 8>::new();
     let mut at = 0;
     while at < input.len() {
-        let read = number::decode(input, at);
-        match read {
-            Decoded::Value(value, next) => {
-                s = keep(s, value);
-                at = next;
-            }
-            Decoded::CutShort => {
-                return Read {
-                    code: codes::CUT_SHORT,
-                    request: no_request(),
-                };
-            }
-            Decoded::Malformed => {
-                return Read {
-                    code: codes::MALFORMED,
-                    request: no_request(),
-                };
-            }
-        }
+        let (value, next) = number::decode(input, at)?;
+        let _ = numbers.try_push(value);
+        at = next;
     }
-    meaning(s)
+    meaning(&numbers)
 }

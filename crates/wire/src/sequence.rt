@@ -1,12 +1,16 @@
 // A request as the wire has it, its sequence of numbers, and the request of a call.
-ghost use Rattle.std.specs.Prelude.{◌≡◌};
+ghost use Rattle.std.specs.Prelude.{◌≡◌, ◌≢◌, IfSome, IfNone};
+ghost use Rattle.number.specs.Answers.{encoded};
+ghost use Rattle.number.specs.Writer.{write_answer, write_buffer};
 ghost use Rattle.rules.specs.Choice.{pick};
 ghost use Rattle.rules.specs.Requests.{no_reply, no_tran};
 ghost use Rattle.rules.specs.Services.{is_service};
-ghost use Rattle.wire.specs.Sequences.{no_request, sequence_of, is_writable};
-ghost use Rattle.wire.specs.Entries.{is_accepted, some_tx, outgoing_of};
-ghost use Rattle.wire.specs.Padded.{padded};
+ghost use Rattle.wire.specs.Sequences.{sequence_of, is_writable, IsSequenceOf};
+ghost use Rattle.wire.specs.declared.sequence.Request.{Request};
+ghost use Rattle.wire.specs.Entries.{bytes_of, some_tx, outgoing_of};
+ghost use Rattle.wire.specs.Answers.{outgoing_told};
 
+use number::{NoRoom, encode_all};
 use rules::{Answer, Call, codes};
 
 // What a sequence says of a request. Yes is 1 and no is 0, so that whatever a host hands in is a value that can be refused.
@@ -32,102 +36,122 @@ const TP_GRANT_CONTROL: u32 = 4;
 
 const TP_END_DIALOGUE: u32 = 5;
 
-// Up to seven numbers, 0 past the last; where there are more, the first seven, and a count of eight.
-#[derive(Clone, Copy)]
-pub struct Sequence {
-    pub numbers: [u32; 7],
-    pub count: usize,
-}
-
-// The numbers of a request.
-pub(crate) fn sequence_of(r: Request) -> Sequence
-    ensures { result ≡ padded (sequence_of r) }
+// Puts the sequence of a request into the buffer, from its front on.
+#[tactic(auto, unfolding(crate::specs::Sequences::sequence_of, rules::specs::Choice::pick))]
+pub(crate) fn put_sequence(buffer: &mut [u8], r: Request) -> Result<usize, NoRoom>
+    ensures answer { encoded result ≡ write_answer buffer.old 0 (bytes_of r) }
+    ensures bytes { buffer.new ≡ write_buffer buffer.old 0 (bytes_of r) }
 {
-    if r.reply == 1 {
-        if r.tx == 1 {
-            return Sequence {
-                numbers: [
-                    TP_BEGIN_DIALOGUE,
-                    1,
-                    TP_DEFERRED_END_DIALOGUE,
-                    TP_DATA,
-                    r.service,
-                    r.token,
-                    TP_GRANT_CONTROL,
-                ],
-                count: 7,
-            };
-        }
-        return Sequence {
-            numbers: [
+    let Request { service, token, .. } = r;
+    match (r.reply, r.tx) {
+        (1, 1) => encode_all(
+            buffer,
+            0,
+            &[
+                TP_BEGIN_DIALOGUE,
+                1,
+                TP_DEFERRED_END_DIALOGUE,
+                TP_DATA,
+                service,
+                token,
+                TP_GRANT_CONTROL,
+            ],
+        ),
+        (1, _) => encode_all(
+            buffer,
+            0,
+            &[
                 TP_BEGIN_DIALOGUE,
                 0,
                 TP_DATA,
-                r.service,
-                r.token,
+                service,
+                token,
                 TP_GRANT_CONTROL,
-                0,
             ],
-            count: 6,
-        };
+        ),
+        _ => encode_all(
+            buffer,
+            0,
+            &[
+                TP_BEGIN_DIALOGUE,
+                0,
+                TP_DATA,
+                service,
+                token,
+                TP_END_DIALOGUE,
+            ],
+        ),
     }
-    Sequence {
-        numbers: [
+}
+
+// The request whose sequence these numbers are, whatever its service.
+#[tactic(auto, using(crate::proofs::Shapes::seven_own, crate::proofs::Shapes::replied_own, crate::proofs::Shapes::unreplied_own, crate::proofs::Shapes::shapeless))]
+pub(crate) fn request_of(numbers: &[u32]) -> Option<Request>
+    ensures own { IfSome result (λ r. IsSequenceOf r numbers.now) }
+    ensures none { IfNone result ((r : Request) → numbers.now ≢ sequence_of r) }
+{
+    match *numbers {
+        [
+            TP_BEGIN_DIALOGUE,
+            1,
+            TP_DEFERRED_END_DIALOGUE,
+            TP_DATA,
+            service,
+            token,
+            TP_GRANT_CONTROL,
+        ] => Some(Request {
+            service,
+            token,
+            reply: 1,
+            tx: 1,
+        }),
+        [
             TP_BEGIN_DIALOGUE,
             0,
             TP_DATA,
-            r.service,
-            r.token,
-            TP_END_DIALOGUE,
+            service,
+            token,
+            TP_GRANT_CONTROL,
+        ] => Some(Request {
+            service,
+            token,
+            reply: 1,
+            tx: 0,
+        }),
+        [
+            TP_BEGIN_DIALOGUE,
             0,
-        ],
-        count: 6,
+            TP_DATA,
+            service,
+            token,
+            TP_END_DIALOGUE,
+        ] => Some(Request {
+            service,
+            token,
+            reply: 0,
+            tx: 0,
+        }),
+        _ => None,
     }
 }
 
+// Services are 1 to 64.
 pub(crate) fn is_service(a: u32) -> bool
     ensures { result ≡ is_service a }
 {
-    (1 <= a) & (a <= 64)
+    (1..=64).contains(&a)
 }
 
 // Can it be written?
+#[tactic(auto, unfolding(crate::specs::Sequences::is_writable))]
 pub(crate) fn is_writable(r: Request) -> bool
     ensures { result ≡ is_writable r }
 {
-    let service = is_service(r.service);
-    service & ((r.reply <= 1) & ((r.tx <= 1) & ((r.reply == 1) | !(r.tx == 1))))
-}
-
-pub(crate) fn no_request() -> Request
-    ensures { result ≡ no_request }
-{
-    Request {
-        service: 0,
-        token: 0,
-        reply: 0,
-        tx: 0,
-    }
-}
-
-// How many requests are to be written of a call, one or none, and which.
-#[repr(C)]
-#[derive(Clone, Copy)]
-pub struct Outgoing {
-    pub count: u32,
-    pub request: Request,
-}
-
-fn is_accepted(code: i64) -> bool
-    ensures { result ≡ is_accepted code }
-{
-    if code == codes::TP_ACCEPTED {
-        return true;
-    }
-    false
+    is_service(r.service) && matches!((r.reply, r.tx), (0 | 1, 0) | (1, 1))
 }
 
 // Is a reply wanted (1), or none (0)?
+#[tactic(auto, unfolding(rules::specs::Choice::pick))]
 fn reply_wanted(b: u32) -> u32
     ensures { result ≡ pick (no_reply b) 0 1 }
 {
@@ -138,7 +162,7 @@ fn reply_wanted(b: u32) -> u32
 }
 
 // Is the link of the caller's transaction (1), or of none (0)?
-#[tactic(auto, using(crate::proofs::Joined::flagged, crate::proofs::Joined::joined_none, crate::proofs::Joined::joined))]
+#[tactic(auto, unfolding(crate::specs::Entries::some_tx, rules::specs::Choice::pick))]
 fn tx_joined(b: u32, tx: u32) -> u32
     ensures { result ≡ some_tx (pick (no_tran b) 0 tx) }
 {
@@ -152,25 +176,17 @@ fn tx_joined(b: u32, tx: u32) -> u32
 }
 
 // What is to be written of a call with its answer: of an accepted kind 12 a request, of every other nothing.
-pub fn wire_of(call: Call, answer: Answer) -> Outgoing
-    ensures { result ≡ outgoing_of call answer }
+#[tactic(auto, unfolding(crate::specs::Entries::outgoing_of, crate::specs::Entries::is_accepted, rules::specs::Choice::pick))]
+pub fn wire_of(call: Call, answer: Answer) -> Option<Request>
+    ensures { outgoing_told result ≡ outgoing_of call answer }
 {
-    let accepted = is_accepted(answer.code);
-    if !((call.kind == 12) & accepted) {
-        return Outgoing {
-            count: 0,
-            request: no_request(),
-        };
+    if call.kind != 12 || answer.code != codes::TP_ACCEPTED {
+        return None;
     }
-    let reply = reply_wanted(call.b);
-    let tx = tx_joined(call.b, answer.tx);
-    Outgoing {
-        count: 1,
-        request: Request {
-            service: call.a,
-            token: call.c,
-            reply,
-            tx,
-        },
-    }
+    Some(Request {
+        service: call.a,
+        token: call.c,
+        reply: reply_wanted(call.b),
+        tx: tx_joined(call.b, answer.tx),
+    })
 }

@@ -1,43 +1,52 @@
 // The writer: a request put into a lent buffer.
 ghost use Rattle.std.specs.Prelude.{◌≡◌};
 ghost use Rattle.wire.specs.Entries.{wire_answer, wire_buffer};
+ghost use Rattle.wire.specs.Answers.{write_code, written_told};
 
-use super::sequence::{Request, is_writable, sequence_of};
-use number::Encoded;
+use super::sequence::{Request, is_writable, put_sequence};
+use number::NoRoom;
 use rules::codes;
 
-// What writing tells: 0 and how many bytes were written, or a refusal and 0.
-#[repr(C)]
-#[derive(Clone, Copy)]
-pub struct Written {
-    pub code: i64,
-    pub length: usize,
+// Why no request is written.
+#[derive(Clone, Copy, Debug, PartialEq, Eq)]
+pub enum WriteError {
+    // the request cannot be written
+    BadArgument,
+    // the buffer is too short
+    TooLittleRoom,
 }
 
-// Puts a request's sequence into the buffer, from its front on: 22, then 16. Where it is refused the buffer stays as it was; 11 bytes are always enough.
-pub fn wire_write(buffer: &mut [u8], request: Request) -> Written
-    ensures answer { result ≡ wire_answer buffer.old request }
+impl WriteError {
+    // The refusal's number.
+    pub fn code(self) -> i64
+        ensures { result ≡ write_code self }
+    {
+        match self {
+            WriteError::BadArgument => codes::BAD_ARGUMENT,
+            WriteError::TooLittleRoom => codes::TOO_LITTLE_ROOM,
+        }
+    }
+}
+
+impl From<NoRoom> for WriteError {
+    ghost use Rattle.wire.specs.declared.writer.WriteError.TheVariants.{TooLittleRoom};
+
+    ghost from_gives = { λ _ e. e ≡ TooLittleRoom };
+
+    fn from(_error: NoRoom) -> WriteError {
+        WriteError::TooLittleRoom
+    }
+}
+
+// Puts a request's sequence into the buffer, from its front on, and tells how many bytes were written: 22, then 16. Where it is refused the buffer stays
+// as it was; 11 bytes are always enough.
+#[tactic(auto, unfolding(crate::specs::Entries::wire_answer, crate::specs::Entries::wire_buffer, crate::specs::Entries::as_written, number::specs::Answers::encoded, rules::specs::Choice::pick))]
+pub fn wire_write(buffer: &mut [u8], request: Request) -> Result<usize, WriteError>
+    ensures answer { written_told result ≡ wire_answer buffer.old request }
     ensures bytes { buffer.new ≡ wire_buffer buffer.old request }
 {
-    let good = is_writable(request);
-    if !good {
-        return Written {
-            code: codes::BAD_ARGUMENT,
-            length: 0,
-        };
+    if !is_writable(request) {
+        return Err(WriteError::BadArgument);
     }
-    let sequence = sequence_of(request);
-    let numbers = sequence.numbers;
-    let count = sequence.count;
-    let wrote = number::encode_all(buffer, 0, &numbers[..count]);
-    match wrote {
-        Encoded::Next(next) => Written {
-            code: codes::SEQUENCE_DONE,
-            length: next,
-        },
-        Encoded::NoRoom => Written {
-            code: codes::TOO_LITTLE_ROOM,
-            length: 0,
-        },
-    }
+    Ok(put_sequence(buffer, request)?)
 }

@@ -1,43 +1,31 @@
 -- `wire::reader::wire_read` meets its contract.
-use mathlib.Core.Path.{ap, sym, ◌∙◌}
-use native.Mathlib.Omega.{arith}
+use Rattle.std.proofs.Common.{ℕ, sym, ap, ◌∙◌, arith}
+use Rattle.std.proofs.lemmas.Result.{err_from_is_err_and, on_err_weaker}
 use Rattle.number.specs.Answers.{decoded}
 use Rattle.number.proofs.Reading.{number_after}
-use Rattle.rules.specs.Codes.{cut_short, malformed}
-use Rattle.wire.specs.Sequences.{read_as}
-use Rattle.wire.specs.Padded.{first_ones, padded}
-use Rattle.wire.proofs.Padding.{keeps_none, keeps_one, keeps_stop, keeps_all}
+use Rattle.arrayvec.specs.ArrayVec.{ArrayVec}
+use Rattle.wire.specs.Sequences.{meaning_of}
+use Rattle.wire.proofs.Kept.{keeps_none, keeps_one, keeps_bad, keeps_all}
 use Rattle.wire.proofs.reader.wire_read.Goals as goal
 
 pub loop-at-init : goal.loop-at-init
-unfolding padded first_ones
-loop-at-init c = keeps_none _
+loop-at-init c = keeps_none _ _ c.new-numbers.ensures
+
+pub returns-in_err-value : goal.returns-in_err-value
+unfolding decoded
+returns-in_err-value c =
+    let p = err_from_is_err_and c.from_residual.result c.from_residual.ensures.1 in
+    rw (p.1, p.2) (keeps_bad c.loop-at.invariant c.loop-at-test.true _ c.in_err-value.ensures)
 
 pub loop-at-smaller : goal.loop-at-smaller
 unfolding decoded
-loop-at-smaller c =
-    let e = sym c.in-Value.ensures in
-    omega (arith, number_after 5 32 _ _ _ _ e, c.loop-at-test.true)
+loop-at-smaller c = omega (arith, number_after 5 32 _ _ _ _ (sym c.in_ok-value.ensures), c.loop-at-test.true)
 
 pub loop-at-preserved : goal.loop-at-preserved
 unfolding decoded
 loop-at-preserved c =
-    keeps_one c.loop-at.invariant c.loop-at-test.true _ _
-    (sym c.in-Value.ensures) _ c.keep-s.ensures
-
-pub returns-in-CutShort : goal.returns-in-CutShort
-unfolding decoded
-returns-in-CutShort c =
-    ap (read_as cut_short) c.no_request.ensures
-    ∙ keeps_stop c.loop-at.invariant c.loop-at-test.true 17
-    (sym c.in-CutShort.ensures)
-
-pub returns-in-Malformed : goal.returns-in-Malformed
-unfolding decoded
-returns-in-Malformed c =
-    ap (read_as malformed) c.no_request-in-Malformed.ensures
-    ∙ keeps_stop c.loop-at.invariant c.loop-at-test.true 18
-    (sym c.in-Malformed.ensures)
+    let p = c.try_push.ensures in
+    keeps_one c.loop-at.invariant c.loop-at-test.true _ _ (sym c.in_ok-value.ensures) _ _ p.variant p.ok (on_err_weaker _ (ap (λ (v : ArrayVec ℕ). v.items)) p.err)
 
 pub returns : goal.returns
-returns c = c.meaning.ensures ∙ keeps_all c.loop-at.invariant c.loop-at-test.false
+returns c = c.meaning.ensures ∙ ap meaning_of c.deref.ensures.0 ∙ keeps_all c.loop-at.invariant c.loop-at-test.false
