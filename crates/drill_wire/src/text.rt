@@ -26,12 +26,10 @@ fn answer_in(places: &[i64; 6]) -> Answer {
 fn put_sent(buffer: &mut [u8], call: Call, answer: Answer) -> usize
     ensures { result ≤ length buffer.old }
 {
-    let outgoing = wire::wire_of(call, answer);
-    if outgoing.count == 0 {
+    let Some(request) = wire::wire_of(call, answer) else {
         return 0;
-    }
-    let written = wire::wire_write(&mut *buffer, outgoing.request);
-    written.length
+    };
+    wire::wire_write(&mut *buffer, request).unwrap_or(0)
 }
 
 // The place of a text's first line feed.

@@ -1,7 +1,6 @@
 -- Laws of lists of numbers that agree.
 -- Assumes nothing.
-use Rattle.std.proofs.Common.{◌≡◌, ℕ, true, ◌&&◌, eqb, List, [], ◌∷◌, length, refl, ap₂, arith}
-use borrow.Author.Tests.{eq-eqb, eqb-true}
+use Rattle.std.proofs.Common.{◌≡◌, ℕ, true, ◌&&◌, eqb, List, [], ◌∷◌, length, refl, ap₂, arith, eq-eqb, eqb-true}
 use Rattle.rules.proofs.Logic.{and_l, and_r}
 use Rattle.wire.specs.Sequences.{agree, same_numbers}
 

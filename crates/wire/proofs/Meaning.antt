@@ -1,14 +1,7 @@
 -- What numbers say: a request's sequence says that request, where it can be written, and other numbers say none.
 -- Assumes nothing.
-use Prim.Native.Nat.{ℕ, ◌-◌, ◌≤◌}
-use mathlib.Core.Path.{◌≡◌, refl, ap, ap₂, sym, ◌∙◌, subst}
-use mathlib.Core.Logic.{◌≢◌, ⊎_elim}
-use mathlib.Core.Bool.{Bool, true, false, not, ◌&&◌, ◌||◌}
-use mathlib.Core.List.{List}
-use native.Mathlib.Omega.{arith}
-use borrow.Author.Tests.{eqb-true, eqb-false, eq-eqb, leb-true}
-use lib.Dec.{eqb, leb}
-use lib.ListN.{length, get_or}
+use Rattle.std.proofs.Common.{ℕ, ◌-◌, ◌≤◌, ◌≡◌, refl, ap, ap₂, sym, ◌∙◌, subst, ◌≢◌, ⊎_elim, Bool, true, false, not, ◌&&◌, ◌||◌, List, arith, eqb-true, eq-eqb, leb-true, eqb, leb, length, get_or}
+use borrow.Author.Tests.{eqb-false}
 use Rattle.number.proofs.Reading.{below_or_not}
 use Rattle.rules.specs.Choice.{pick}
 use Rattle.rules.specs.Codes.{no_such_sequence}

@@ -1,15 +1,6 @@
 -- What is written is read, and what is read is what is written: one form for each request, and one request for each form.
 -- Assumes nothing.
-use Prim.Native.Nat.{ℕ, suc, ◌+◌, ◌-◌, ◌^◌, ◌≤◌, ◌<◌}
-use mathlib.Core.Path.{◌≡◌, refl, ap, ap₂, sym, ◌∙◌, subst}
-use mathlib.Core.Logic.{◌⊎◌, inl, inr, ⊎_elim}
-use mathlib.Core.Bool.{Bool, true, false, not, ◌&&◌, ◌||◌}
-use mathlib.Core.List.{List, [], ◌∷◌, ◌++◌}
-use native.Mathlib.Omega.{arith}
-use borrow.Author.Tests.{leb-true}
-use lib.Dec.{eqb, leb}
-use lib.IntN.{pos}
-use lib.ListN.{length, take, drop, get_or, length-append}
+use Rattle.std.proofs.Common.{ℕ, suc, ◌+◌, ◌-◌, ◌^◌, ◌≤◌, ◌<◌, ◌≡◌, refl, ap, ap₂, sym, ◌∙◌, subst, ◌⊎◌, inl, inr, ⊎_elim, Bool, true, false, not, ◌&&◌, ◌||◌, List, [], ◌∷◌, ◌++◌, arith, leb-true, eqb, leb, pos, length, take, drop, get_or, length-append}
 use Rattle.number.specs.Writer.{Writing, written, number_bytes, write_answer, write_buffer}
 use Rattle.number.specs.Numbers.{Numbers, numbers, stopped, all_numbers, numbers_bytes}
 use Rattle.number.proofs.Groups.{bytes_last, bytes_few}

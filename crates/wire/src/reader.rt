@@ -56,6 +56,7 @@ fn meaning(numbers: &[u32]) -> Result<Request, ReadError>
 }
 
 // Reads every number of the input, of which the first bad one decides, 17 or 18; then what they say, or 33.
+#[tactic(auto, using(crate::proofs::Kept::keeps_none, crate::proofs::Kept::keeps_one), unfolding(number::specs::Answers::decoded))]
 pub fn wire_read(input: &[u8]) -> Result<Request, ReadError>
     ensures { read_told result ≡ read_of input.now }
 {

@@ -1,5 +1,5 @@
 // The lines: what was asked, and what the library's calls tell.
-use rules::{Answer, Call, codes};
+use rules::{Answer, Call};
 use wire::Request;
 
 fn text<P: Print>(out: &P, bytes: &[u8]) {
@@ -38,11 +38,9 @@ pub fn read<P: Print>(out: &P, input: &[u8]) {
     text(out, b"read");
     bytes(out, input);
     text(out, b":");
-    let read = wire::wire_read(input);
-    if read.code == codes::SEQUENCE_DONE {
-        request(out, read.request);
-    } else {
-        refusal(out, read.code);
+    match wire::wire_read(input) {
+        Ok(r) => request(out, r),
+        Err(error) => refusal(out, error.code()),
     }
     text(out, b"\n");
 }
@@ -53,11 +51,9 @@ pub fn write<P: Print>(out: &P, buffer: &mut [u8], r: Request) {
     text(out, b" room");
     number(out, buffer.len() as u64);
     text(out, b":");
-    let written = wire::wire_write(&mut *buffer, r);
-    if written.code == codes::SEQUENCE_DONE {
-        number(out, written.length as u64);
-    } else {
-        refusal(out, written.code);
+    match wire::wire_write(&mut *buffer, r) {
+        Ok(length) => number(out, length as u64),
+        Err(error) => refusal(out, error.code()),
     }
     text(out, b" in");
     bytes(out, buffer);
@@ -100,11 +96,9 @@ pub fn of<P: Print>(out: &P, c: Call, bits: u64, a: Answer) {
     signed(out, bits);
     answer(out, a);
     text(out, b":");
-    let outgoing = wire::wire_of(c, a);
-    if outgoing.count == 1 {
-        request(out, outgoing.request);
-    } else {
-        text(out, b" nothing");
+    match wire::wire_of(c, a) {
+        Some(r) => request(out, r),
+        None => text(out, b" nothing"),
     }
     text(out, b"\n");
 }
