@@ -1,7 +1,6 @@
 // Lends the monitor records that are broken in each way that soundness names, and sound ones at the borders and that no list leads to: a line each.
 #![tactic(auto)]
 
-mod alike;
 mod links;
 mod parties;
 mod records;

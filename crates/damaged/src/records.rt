@@ -5,71 +5,74 @@ use std::io;
 
 // A request that waits, of party 0's transaction.
 fn waiting() -> Link {
-    let mut l = Link::fresh();
-    l.number = 2;
-    l.attached = 1;
-    l.service = 3;
-    l.tx = 3;
-    l.first = 9;
-    l
+    Link {
+        number: 2,
+        attached: 1,
+        service: 3,
+        tx: 3,
+        first: 9,
+        ..Link::fresh()
+    }
 }
 
 // A conversation that party 1 serves, with a token unread.
 pub fn working() -> Link {
-    let mut l = waiting();
-    l.number = 4;
-    l.kind = 1;
-    l.state = 1;
-    l.server = 1;
-    l.unread[0] = 11;
-    l.filled = 1;
-    l
+    Link {
+        number: 4,
+        kind: 1,
+        state: 1,
+        server: 1,
+        unread: [11, 0, 0, 0],
+        filled: 1,
+        ..waiting()
+    }
 }
 
 // A request of party 2's that party 1 served.
 pub fn returned() -> Link {
-    let mut l = Link::fresh();
-    l.number = 5;
-    l.originator = 2;
-    l.attached = 1;
-    l.service = 3;
-    l.state = 2;
-    l.server = 1;
-    l.outcome = 8;
-    l.ending = 12;
-    l
+    Link {
+        number: 5,
+        originator: 2,
+        attached: 1,
+        service: 3,
+        state: 2,
+        server: 1,
+        outcome: 8,
+        ending: 12,
+        ..Link::fresh()
+    }
 }
 
 // Party 0 owns transaction 3.
 fn owner() -> Party {
-    let mut q = Party::fresh();
-    q.opened = 1;
-    q.control = 1;
-    q.timeout = 30;
-    q.owned = 3;
-    q.deadline = 35;
-    q
+    Party {
+        opened: 1,
+        control: 1,
+        timeout: 30,
+        owned: 3,
+        deadline: 35,
+        ..Party::fresh()
+    }
 }
 
 // Party 1 serves link 4.
 pub fn server() -> Party {
-    let mut q = Party::fresh();
-    q.opened = 1;
-    q.services = 4;
-    q.served = 4;
-    q
+    Party {
+        opened: 1,
+        services: 4,
+        served: 4,
+        ..Party::fresh()
+    }
 }
 
 // Nothing yet.
 fn fresh() -> Monitor {
-    let q = Party::fresh();
-    let l = Link::fresh();
     Monitor {
         clock: 0,
         lastlink: 0,
         lasttx: 0,
-        parties: [q; 16],
-        links: [l; 32],
+        parties: [Party::fresh(); 16],
+        links: [Link::fresh(); 32],
         count: 0,
     }
 }
@@ -80,16 +83,11 @@ pub fn base() -> Monitor {
     m.clock = 5;
     m.lastlink = 7;
     m.lasttx = 3;
-    let o = owner();
-    m.parties[0] = o;
-    let s = server();
-    m.parties[1] = s;
-    let w = waiting();
-    m.links[0] = w;
-    let k = working();
-    m.links[1] = k;
-    let r = returned();
-    m.links[2] = r;
+    m.parties[0] = owner();
+    m.parties[1] = server();
+    m.links[0] = waiting();
+    m.links[1] = working();
+    m.links[2] = returned();
     m.count = 3;
     m
 }
@@ -97,12 +95,8 @@ pub fn base() -> Monitor {
 // Party 2 has requested in transaction 3, which party 0 owns, without serving in it.
 pub fn stray_request() -> Monitor {
     let mut m = base();
-    let mut q = m.parties[1];
-    q.served = 0;
-    m.parties[1] = q;
-    let mut l = waiting();
-    l.originator = 2;
-    m.links[0] = l;
+    m.parties[1].served = 0;
+    m.links[0].originator = 2;
     m.count = 1;
     m
 }
@@ -110,11 +104,12 @@ pub fn stray_request() -> Monitor {
 // Party 1 serves a request of transaction 3 whose reply nobody waits for.
 pub fn stray_service() -> Monitor {
     let mut m = base();
-    let mut l = working();
-    l.kind = 0;
-    l.filled = 0;
-    l.attached = 0;
-    m.links[0] = l;
+    m.links[0] = Link {
+        kind: 0,
+        filled: 0,
+        attached: 0,
+        ..working()
+    };
     m.count = 1;
     m
 }
@@ -122,36 +117,32 @@ pub fn stray_service() -> Monitor {
 // The request that party 1 served for party 2 is of transaction 2, which has ended.
 pub fn stray_reply() -> Monitor {
     let mut m = base();
-    let mut l = returned();
-    l.tx = 2;
-    m.links[2] = l;
+    m.links[2].tx = 2;
     m
 }
 
 // Party 1 serves a conversation that is disconnected, with four tokens of its own unread.
 pub fn stray_unread() -> Monitor {
     let mut m = base();
-    let mut l = working();
-    l.attached = 0;
-    l.disconnected = 1;
-    l.sender = 1;
-    l.filled = 4;
-    m.links[1] = l;
+    m.links[1] = Link {
+        attached: 0,
+        disconnected: 1,
+        sender: 1,
+        filled: 4,
+        ..working()
+    };
     m
 }
 
 // 32 waiting links, numbered 1 to 32.
 pub fn full() -> Monitor {
     let mut m = base();
-    let mut q = m.parties[1];
-    q.served = 0;
-    m.parties[1] = q;
-    let mut number = 0;
-    while number < 32 {
-        let mut l = waiting();
-        l.number = number + 1;
-        m.links[number as usize] = l;
-        number += 1;
+    m.parties[1].served = 0;
+    for (link, number) in m.links.iter_mut().zip(1..=32) {
+        *link = Link {
+            number,
+            ..waiting()
+        };
     }
     m.lastlink = 32;
     m.count = 32;
@@ -159,16 +150,12 @@ pub fn full() -> Monitor {
 }
 
 pub fn sound(out: &impl Print) -> io::Result<()> {
-    let b = base();
-    show(out, b"sound, three links", b)?;
-    let f = fresh();
-    show(out, b"sound, fresh", f)?;
+    show(out, "sound, three links", base())?;
+    show(out, "sound, fresh", fresh())?;
     let mut m = full();
-    show(out, b"sound, 32 links", m)?;
+    show(out, "sound, 32 links", m)?;
     m.lastlink = 60000;
     m.lasttx = 60000;
-    let mut l = m.links[31];
-    l.number = 60000;
-    m.links[31] = l;
-    show(out, b"sound, last numbers 60000", m)
+    m.links[31].number = 60000;
+    show(out, "sound, last numbers 60000", m)
 }

@@ -1,19 +1,17 @@
 // A record as the words that a host lends: 4 of the head, 18 of each party, 19 of each link, a number of 64 bits as two, the low half first.
-ghost use Rattle.std.specs.Prelude.{◌<◌};
-
 use monitor::Store;
 use rules::{Link, Monitor, Party};
 
 fn low(x: u64) -> u32 {
-    (x % 4294967296) as u32
+    (x & 0xffff_ffff) as u32
 }
 
 fn high(x: u64) -> u32 {
-    (x / 4294967296) as u32
+    (x >> 32) as u32
 }
 
 fn party_words(q: Party) -> [u32; 18] {
-    let r = q.reports;
+    let [first, second, third, fourth] = q.reports;
     [
         q.opened,
         q.control,
@@ -25,10 +23,10 @@ fn party_words(q: Party) -> [u32; 18] {
         high(q.deadline),
         q.rollbackonly,
         q.served,
-        r[0],
-        r[1],
-        r[2],
-        r[3],
+        first,
+        second,
+        third,
+        fourth,
         low(q.mayrequest),
         high(q.mayrequest),
         low(q.mayadvertise),
@@ -37,7 +35,7 @@ fn party_words(q: Party) -> [u32; 18] {
 }
 
 fn link_words(l: Link) -> [u32; 19] {
-    let u = l.unread;
+    let [first, second, third, fourth] = l.unread;
     [
         l.number,
         l.kind,
@@ -53,64 +51,18 @@ fn link_words(l: Link) -> [u32; 19] {
         l.sender,
         l.granting,
         l.disconnected,
-        u[0],
-        u[1],
-        u[2],
-        u[3],
+        first,
+        second,
+        third,
+        fourth,
         l.filled,
     ]
 }
 
-fn with_party(mut s: Store, p: usize, words: [u32; 18]) -> Store
-    requires { p < 16 }
-{
-    let mut k = 0;
-    while k < 18 {
-        let at = 4 + p * 18 + k;
-        let w = words[k];
-        s.words[at] = w;
-        k += 1;
+fn put(places: &mut [u32], words: &[u32]) {
+    for (place, word) in places.iter_mut().zip(words) {
+        *place = *word;
     }
-    s
-}
-
-fn with_link(mut s: Store, i: usize, words: [u32; 19]) -> Store
-    requires { i < 32 }
-{
-    let mut k = 0;
-    while k < 19 {
-        let at = 292 + i * 19 + k;
-        let w = words[k];
-        s.words[at] = w;
-        k += 1;
-    }
-    s
-}
-
-fn with_parties(s: Store, m: Monitor) -> Store {
-    let mut n = s;
-    let mut p = 0;
-    while p < 16 {
-        let q = m.parties[p];
-        let words = party_words(q);
-        let next = with_party(n, p, words);
-        n = next;
-        p += 1;
-    }
-    n
-}
-
-fn with_links(s: Store, m: Monitor) -> Store {
-    let mut n = s;
-    let mut i = 0;
-    while i < 32 {
-        let l = m.links[i];
-        let words = link_words(l);
-        let next = with_link(n, i, words);
-        n = next;
-        i += 1;
-    }
-    n
 }
 
 pub fn stored(m: Monitor) -> Store {
@@ -118,7 +70,12 @@ pub fn stored(m: Monitor) -> Store {
     s.words[0] = m.clock;
     s.words[1] = m.lastlink;
     s.words[2] = m.lasttx;
-    s.words[3] = (m.count % 4294967296) as u32;
-    let t = with_parties(s, m);
-    with_links(t, m)
+    s.words[3] = (m.count & 0xffff_ffff) as u32;
+    for (places, q) in s.words[4..292].chunks_mut(18).zip(&m.parties) {
+        put(places, &party_words(*q));
+    }
+    for (places, l) in s.words[292..].chunks_mut(19).zip(&m.links) {
+        put(places, &link_words(*l));
+    }
+    s
 }

@@ -2,202 +2,149 @@
 // too.
 #![tactic(auto)]
 
-ghost use Rattle.std.specs.Prelude.{true, false, ◌≡◌, ◌≤◌, ◌<◌, length};
+ghost use Rattle.std.specs.Prelude.{true, false, ◌≡◌, ◌≤◌, ◌<◌, length, take, IfOk, IfErr, IfSome, MatchOption};
+
+mod told;
 
 use listing::Turned;
 use monitor::Store;
 use std::io::Read;
+pub use told::{Failure, tell};
 
-// What waits in the input's buffer: how many bytes, whether the input ended there, and whether it could be read.
+// What waits in the input's buffer: how many bytes, and whether the input ended there.
 #[derive(Clone, Copy)]
 pub struct Waiting {
     pub count: usize,
     pub ended: bool,
-    pub failed: bool,
 }
 
-// Reads once, past the bytes that wait, unless the input has ended or the buffer is full. A read has room for a byte, so one that gives none has met the
-// input's end.
-pub fn receive<R: Read>(source: &mut R, input: &mut [u8], count: usize, ended: bool) -> Waiting
-    ensures { result.count ≤ length input.old }
-{
-    if input.len() <= count {
-        return Waiting {
-            count: input.len(),
-            ended,
-            failed: false,
+impl Waiting {
+    // Reads once, past the bytes that wait, unless the input has ended or the buffer is full. A read has room for a byte, so one that gives none has met
+    // the input's end.
+    pub fn receive<R: Read>(self, source: &mut R, input: &mut [u8]) -> Result<Waiting, Failure>
+        ensures within { IfOk result (λ w. w.count ≤ length input.old) }
+        ensures kept { take self.count input.new ≡ take self.count input.old }
+        ensures error { IfErr result (λ e. e ≡ Failure.CannotRead) }
+    {
+        if input.len() <= self.count {
+            return Ok(Waiting {
+                count: input.len(),
+                ended: self.ended,
+            });
+        }
+        if self.ended {
+            return Ok(self);
+        }
+        let Ok(more) = source.read(&mut input[self.count..]) else {
+            return Err(Failure::CannotRead);
         };
-    }
-    if ended {
-        return Waiting {
-            count,
-            ended: true,
-            failed: false,
-        };
-    }
-    let Ok(more) = source.read(&mut input[count..]) else {
-        return Waiting {
-            count,
-            ended: true,
-            failed: true,
-        };
-    };
-    if more == 0 {
-        return Waiting {
-            count,
-            ended: true,
-            failed: false,
-        };
-    }
-    Waiting {
-        count: count + more,
-        ended: false,
-        failed: false,
+        Ok(Waiting {
+            count: self.count + more,
+            ended: more == 0,
+        })
     }
 }
 
-// Between two turns: the record, what waits, and whether to go on.
+// Between two turns: the record, and what waits.
 #[derive(Clone, Copy)]
 pub struct State {
     pub store: Store,
-    pub count: usize,
-    pub ended: bool,
-    pub more: bool,
+    pub waiting: Waiting,
 }
 
 impl State {
     // A fresh monitor, and nothing read yet.
     pub fn fresh() -> Self
-        ensures { result.count ≡ 0 }
+        ensures { result.waiting.count ≡ 0 }
     {
         State {
             store: Store::fresh(),
-            count: 0,
-            ended: false,
-            more: true,
+            waiting: Waiting {
+                count: 0,
+                ended: false,
+            },
         }
     }
-}
 
-fn tell<E: Print>(errors: &E, program: &[u8], what: &[u8]) {
-    let _ = errors.write_all(program);
-    let _ = errors.write_all(what);
-}
-
-// Where the input cannot be read, the program tells so and stops.
-pub fn cannot_read<E: Print>(errors: &E, program: &[u8], store: Store) -> State
-    ensures { result.more ≡ false }
-{
-    tell(errors, program, b": cannot read\n");
-    State {
-        store,
-        count: 0,
-        ended: true,
-        more: false,
+    // What a turn leaves to the next one; nothing where the file is over.
+    pub fn after(turned: Turned, ended: bool) -> Option<State>
+        ensures { MatchOption result (turned.over ≡ true)
+            (λ s. (turned.over ≡ false) × (s ≡ record { store = turned.store; waiting = record { count = turned.kept; ended = ended } })) }
+    {
+        if turned.over {
+            return None;
+        }
+        Some(State {
+            store: turned.store,
+            waiting: Waiting {
+                count: turned.kept,
+                ended,
+            },
+        })
     }
 }
 
-// What a turn leaves, once its text was written; where it could not be, the program tells so and stops.
-pub fn after_turn<E: Print>(
-    errors: &E,
-    program: &[u8],
-    turned: Turned,
-    ended: bool,
-    ok: bool,
-) -> State
-    ensures on { result.more ≡ true → turned.over ≡ false }
-    ensures kept { result.count ≡ turned.kept }
-{
-    let after = turned.store;
-    if !ok {
-        tell(errors, program, b": cannot write\n");
-        return State {
-            store: after,
-            count: turned.kept,
-            ended,
-            more: false,
+// The buffers of a turn: the input's, places for 496 answers, and room for their lines.
+#[derive(Drop)]
+struct Buffers {
+    input: [u8; 65536],
+    answers: [i64; 2976],
+    output: [u8; 65536],
+    ghost input_length: { length input ≡ 65536 },
+    ghost places: { length answers ≡ 2976 },
+}
+
+impl Buffers {
+    fn new() -> Self {
+        Buffers {
+            input: [0; 65536],
+            answers: [0; 2976],
+            output: [0; 65536],
+        }
+    }
+
+    // One turn: reads, has the calls that are whole run and listed, and writes their lines. Where the file goes on there is room for the next read.
+    fn turn<R: Read>(
+        &mut self,
+        source: &mut R,
+        out: &impl Print,
+        state: State,
+    ) -> Result<Option<State>, Failure>
+        requires { state.waiting.count < 65536 }
+        ensures { IfOk result (λ next. IfSome next (λ s. s.waiting.count < 65536)) }
+    {
+        let waiting = state.waiting.receive(source, &mut self.input)?;
+        let turned = listing::list_turn(
+            state.store,
+            &mut self.input,
+            waiting.count,
+            waiting.ended,
+            &mut self.answers,
+            &mut self.output,
+        );
+        let Ok(()) = out.write_all(&self.output[..turned.written]) else {
+            return Err(Failure::CannotWrite);
         };
-    }
-    State {
-        store: after,
-        count: turned.kept,
-        ended,
-        more: !turned.over,
+        Ok(State::after(turned, waiting.ended))
     }
 }
 
-// One turn: reads, has the calls that are whole run and listed, and writes their lines. Where the file goes on there is room for the next read.
-fn turn<R: Read, P: Print, E: Print>(
-    source: &mut R,
-    out: &P,
-    errors: &E,
-    program: &[u8],
-    s: State,
-    input: &mut [u8],
-    answers: &mut [i64],
-    output: &mut [u8],
-) -> State
-    requires count_in_bounds { s.count < length input.old }
-    requires in_bounds { 30 < length input.old }
-    requires in_bounds_2 { 6 ≤ length answers.old }
-    ensures { result.more ≡ true → result.count < length input.old }
-{
-    let before = s.store;
-    let waiting = receive(source, &mut *input, s.count, s.ended);
-    if waiting.failed {
-        return cannot_read(errors, program, before);
+// Lists the drill file that a reader gives, up to its end, a bad number or a failure.
+fn list<R: Read>(source: &mut R, out: &impl Print) -> Result<(), Failure> {
+    let mut buffers = Buffers::new();
+    let mut state = State::fresh();
+    for _ in 0..u64::MAX {
+        let Some(next) = buffers.turn(source, out, state)? else {
+            return Ok(());
+        };
+        state = next;
     }
-    let ended = waiting.ended;
-    let turned = listing::list_turn(
-        before,
-        &mut *input,
-        waiting.count,
-        ended,
-        &mut *answers,
-        &mut *output,
-    );
-    let written = turned.written;
-    let ok = out.write_all(&output[..written]).is_ok();
-    after_turn(errors, program, turned, ended, ok)
-}
-
-// Places for 496 answers, whose lines fit into 65,536 bytes.
-fn answer_places() -> [i64; 2976]
-    ensures { 2976 ≡ length result }
-{
-    [0; 2976]
-}
-
-fn large_buffer() -> [u8; 65536]
-    ensures { 65536 ≡ length result }
-{
-    [0; 65536]
+    Ok(())
 }
 
 // Lists the drill file that a reader gives, up to its end, a bad number or a failure, which is told in the program's name.
-pub fn list_all<R: Read, P: Print, E: Print>(source: &mut R, out: &P, errors: &E, program: &[u8]) {
-    let mut read = large_buffer();
-    let input: &mut [u8] = &mut read;
-    let mut said = answer_places();
-    let answers: &mut [i64] = &mut said;
-    let mut text = large_buffer();
-    let output: &mut [u8] = &mut text;
-    let mut s = State::fresh();
-    let mut turns: u64 = 18446744073709551615;
-    while 0 < turns {
-        s = turn(
-            source,
-            out,
-            errors,
-            program,
-            s,
-            &mut *input,
-            &mut *answers,
-            &mut *output,
-        );
-        if !s.more {
-            return;
-        }
-        turns -= 1;
+pub fn list_all<R: Read>(source: &mut R, out: &impl Print, errors: &impl Print, program: &[u8]) {
+    if let Err(failure) = list(source, out) {
+        tell(errors, program, failure);
     }
 }

@@ -1,19 +1,22 @@
 // Bytes as text: a space and two hex digits for each.
 #![tactic(auto)]
 
-fn write_byte<P: Print>(out: &P, byte: u8) -> bool {
-    print!(out; " {byte:02x}").is_ok()
-}
+ghost use Rattle.std.specs.Prelude.{Some};
+ghost use Rattle.hex_io.specs.Hex.{hex_text};
 
-// Writes the bytes, and tells whether all of them were written.
-pub fn write_bytes<P: Print>(out: &P, bytes: &[u8]) -> bool {
-    let mut i = 0;
-    while i < bytes.len() {
-        let ok = write_byte(out, bytes[i]);
-        if !ok {
-            return false;
+use std::fmt;
+
+// Bytes that are printed so.
+#[derive(Clone, Copy)]
+pub struct Hex<'a>(pub &'a [u8]);
+
+impl fmt::Display for Hex<'_> {
+    ghost output = { λ h. Some (hex_text h.0.now) };
+
+    fn fmt<W: fmt::Write>(&self, f: &mut fmt::Formatter<W>) -> fmt::Result {
+        for &byte in self.0 {
+            write!(f, " {byte:02x}")?;
         }
-        i += 1;
+        Ok(())
     }
-    true
 }

@@ -9,32 +9,23 @@ mod show;
 
 use std::io::Read;
 
-// Answers the next query, and tells whether there was one.
-fn answer_next<R: Read, P: Print>(source: &mut R, out: &P) -> bool {
-    let mut front = [0u8; 2];
-    let got = query::read_full(source, &mut front);
-    if got < 2 {
-        return false;
-    }
-    let asked = front[0];
-    let count = front[1];
+// Answers the next query; nothing where there is none.
+fn answer_next<R: Read>(source: &mut R, out: &impl Print) -> Option<()> {
+    let [asked, count] = query::bytes::<R, 2>(source)?;
     match asked {
         0 => query::answer_read(source, out, count),
         1 => query::answer_write(source, out, count),
         2 => query::answer_of(source, out, count),
-        _ => false,
+        _ => None,
     }
 }
 
 fn main(rt: HostRuntime) {
     let mut source = rt.stdin();
     let out = rt.stdout();
-    let mut turns: u64 = 18446744073709551615;
-    while 0 < turns {
-        let more = answer_next(&mut source, &out);
-        if !more {
+    for _ in 0..u64::MAX {
+        if answer_next(&mut source, &out).is_none() {
             return;
         }
-        turns -= 1;
     }
 }

@@ -1,104 +1,52 @@
 // The lines: what was asked, and what the library's calls tell.
-use rules::{Answer, Call};
+use hex_io::Hex;
+use rules::{Answer, Call, codes};
+use std::io;
 use wire::Request;
 
-fn text<P: Print>(out: &P, bytes: &[u8]) {
-    let _ = out.write_all(bytes);
+fn request(out: &impl Print, r: Request) -> io::Result<()> {
+    print!(out; " {} {} {} {}", r.service, r.token, r.reply, r.tx)
 }
 
-// A space and a number.
-fn number<P: Print>(out: &P, n: u64) {
-    text(out, b" ");
-    let _ = out.print(n);
-}
-
-fn bytes<P: Print>(out: &P, bytes: &[u8]) {
-    hex_io::write_bytes(out, bytes);
-}
-
-fn request<P: Print>(out: &P, r: Request) {
-    number(out, r.service as u64);
-    number(out, r.token as u64);
-    number(out, r.reply as u64);
-    number(out, r.tx as u64);
-}
-
-fn refusal<P: Print>(out: &P, code: i64) {
+fn refusal(out: &impl Print, code: i64) -> io::Result<()> {
     match code {
-        16 => text(out, b" refused 16"),
-        17 => text(out, b" refused 17"),
-        18 => text(out, b" refused 18"),
-        22 => text(out, b" refused 22"),
-        33 => text(out, b" refused 33"),
-        _ => text(out, b" refused by another number"),
+        16 | 17 | 18 | 22 | 33 => print!(out; " refused {code}"),
+        _ => print!(out; " refused by another number"),
     }
 }
 
-pub fn read<P: Print>(out: &P, input: &[u8]) {
-    text(out, b"read");
-    bytes(out, input);
-    text(out, b":");
-    match wire::wire_read(input) {
-        Ok(r) => request(out, r),
-        Err(error) => refusal(out, error.code()),
-    }
-    text(out, b"\n");
-}
-
-pub fn write<P: Print>(out: &P, buffer: &mut [u8], r: Request) {
-    text(out, b"write");
-    request(out, r);
-    text(out, b" room");
-    number(out, buffer.len() as u64);
-    text(out, b":");
-    match wire::wire_write(&mut *buffer, r) {
-        Ok(length) => number(out, length as u64),
-        Err(error) => refusal(out, error.code()),
-    }
-    text(out, b" in");
-    bytes(out, buffer);
-    text(out, b"\n");
-}
-
-fn call<P: Print>(out: &P, c: Call) {
-    number(out, c.clock as u64);
-    number(out, c.party as u64);
-    number(out, c.kind as u64);
-    number(out, c.a as u64);
-    number(out, c.b as u64);
-    number(out, c.c as u64);
-}
-
-// A signed number, by its 64 bits.
-fn signed<P: Print>(out: &P, bits: u64) {
-    if bits < 9223372036854775808 {
-        number(out, bits);
+pub fn read(out: &impl Print, input: &[u8]) -> io::Result<()> {
+    print!(out; "read{}:", Hex(input))?;
+    let read = wire::wire_read(input);
+    if read.code == codes::SEQUENCE_DONE {
+        request(out, read.request)?;
     } else {
-        text(out, b" -");
-        let _ = out.print(18446744073709551615 - bits + 1);
+        refusal(out, read.code)?;
     }
+    println!(out)
 }
 
-// An answer but its code.
-fn answer<P: Print>(out: &P, a: Answer) {
-    number(out, a.value as u64);
-    number(out, a.event as u64);
-    number(out, a.token as u64);
-    number(out, a.service as u64);
-    number(out, a.tx as u64);
+pub fn write(out: &impl Print, buffer: &mut [u8], r: Request) -> io::Result<()> {
+    print!(out; "write")?;
+    request(out, r)?;
+    print!(out; " room {}:", buffer.len())?;
+    let written = wire::wire_write(buffer, r);
+    if written.code == codes::SEQUENCE_DONE {
+        print!(out; " {}", written.length)?;
+    } else {
+        refusal(out, written.code)?;
+    }
+    println!(out; " in{}", Hex(buffer))
 }
 
-// The bits are those of the answer's code.
-pub fn of<P: Print>(out: &P, c: Call, bits: u64, a: Answer) {
-    text(out, b"of");
-    call(out, c);
-    text(out, b",");
-    signed(out, bits);
-    answer(out, a);
-    text(out, b":");
-    match wire::wire_of(c, a) {
-        Some(r) => request(out, r),
-        None => text(out, b" nothing"),
+pub fn of(out: &impl Print, c: Call, a: Answer) -> io::Result<()> {
+    print!(out; "of {} {} {} {} {} {},", c.clock, c.party, c.kind, c.a, c.b, c.c)?;
+    print!(out; " {} {} {} {} {} {}:", a.code, a.value, a.event, a.token, a.service, a.tx)?;
+    let outgoing = wire::wire_of(c, a);
+    if outgoing.count == 1 {
+        request(out, outgoing.request)?;
+    } else {
+        print!(out; " nothing")?;
     }
-    text(out, b"\n");
+    println!(out)
 }
