@@ -22,9 +22,14 @@ pub fn counts(out: &impl Print) -> io::Result<()> {
 }
 
 fn show_number(out: &impl Print, name: &str, number: u32) -> io::Result<()> {
-    let mut l = returned();
-    l.number = number;
-    show_link(out, name, l)
+    show_link(
+        out,
+        name,
+        Link {
+            number,
+            ..returned()
+        },
+    )
 }
 
 // "their numbers rise strictly from 1 to at most the last number, both last numbers are at most 60,000"
@@ -34,14 +39,10 @@ pub fn numbers(out: &impl Print) -> io::Result<()> {
     show_number(out, "link numbers 2, 4, 0", 0)?;
     show_number(out, "link number 8 past the last, 7", 8)?;
     let mut m = base();
-    let mut l = m.links[0];
-    l.number = 0;
-    m.links[0] = l;
+    m.links[0].number = 0;
     show(out, "link numbers 0, 4, 5", m)?;
     let mut m = full();
-    let mut l = m.links[31];
-    l.number = 31;
-    m.links[31] = l;
+    m.links[31].number = 31;
     show(out, "link number 31 in the 32nd place", m)?;
     last_numbers(out)
 }
@@ -59,47 +60,103 @@ fn last_numbers(out: &impl Print) -> io::Result<()> {
 
 // "originators and servers are 0 to 15, unread is at most 4"
 pub fn ranges(out: &impl Print) -> io::Result<()> {
-    let mut l = returned();
-    l.originator = 16;
-    show_link(out, "originator 16", l)?;
-    l.originator = 255;
-    show_link(out, "originator 255", l)?;
-    let mut l = returned();
-    l.server = 16;
-    show_link(out, "server 16", l)?;
-    let mut l = returned();
-    l.filled = 5;
-    show_link(out, "unread 5", l)
+    show_link(
+        out,
+        "originator 16",
+        Link {
+            originator: 16,
+            ..returned()
+        },
+    )?;
+    show_link(
+        out,
+        "originator 255",
+        Link {
+            originator: 255,
+            ..returned()
+        },
+    )?;
+    show_link(
+        out,
+        "server 16",
+        Link {
+            server: 16,
+            ..returned()
+        },
+    )?;
+    show_link(
+        out,
+        "unread 5",
+        Link {
+            filled: 5,
+            ..returned()
+        },
+    )
 }
 
 // "fields with listed choices hold one of them, a returned link's outcome is not 0"
 pub fn choices(out: &impl Print) -> io::Result<()> {
-    let mut l = returned();
-    l.kind = 2;
-    show_link(out, "kind 2", l)?;
-    let mut l = returned();
-    l.attached = 2;
-    show_link(out, "attached 2", l)?;
-    let mut l = returned();
-    l.state = 3;
-    show_link(out, "state 3", l)?;
-    let mut l = returned();
-    l.sender = 2;
-    show_link(out, "sender 2", l)?;
-    let mut l = returned();
-    l.granting = 2;
-    show_link(out, "granting 2", l)?;
-    let mut l = returned();
-    l.disconnected = 3;
-    show_link(out, "disconnected 3", l)?;
+    show_link(
+        out,
+        "kind 2",
+        Link {
+            kind: 2,
+            ..returned()
+        },
+    )?;
+    show_link(
+        out,
+        "attached 2",
+        Link {
+            attached: 2,
+            ..returned()
+        },
+    )?;
+    show_link(
+        out,
+        "state 3",
+        Link {
+            state: 3,
+            ..returned()
+        },
+    )?;
+    show_link(
+        out,
+        "sender 2",
+        Link {
+            sender: 2,
+            ..returned()
+        },
+    )?;
+    show_link(
+        out,
+        "granting 2",
+        Link {
+            granting: 2,
+            ..returned()
+        },
+    )?;
+    show_link(
+        out,
+        "disconnected 3",
+        Link {
+            disconnected: 3,
+            ..returned()
+        },
+    )?;
     outcomes(out)
 }
 
 fn show_outcome(out: &impl Print, name: &str, state: u32, outcome: u32) -> io::Result<()> {
-    let mut l = returned();
-    l.state = state;
-    l.outcome = outcome;
-    show_link(out, name, l)
+    show_link(
+        out,
+        name,
+        Link {
+            state,
+            outcome,
+            ..returned()
+        },
+    )
 }
 
 fn outcomes(out: &impl Print) -> io::Result<()> {
@@ -113,26 +170,35 @@ fn outcomes(out: &impl Print) -> io::Result<()> {
 
 // Each field at its last choice; what soundness does not ask of a link; and a place past the last link.
 pub fn sound(out: &impl Print) -> io::Result<()> {
-    let mut l = working();
-    l.number = 7;
-    l.originator = 15;
-    l.server = 15;
-    l.sender = 1;
-    l.granting = 1;
-    l.disconnected = 2;
-    l.filled = 4;
-    show_link(out, "sound, each field at its border", l)?;
+    let bordering = Link {
+        number: 7,
+        originator: 15,
+        server: 15,
+        sender: 1,
+        granting: 1,
+        disconnected: 2,
+        filled: 4,
+        ..working()
+    };
+    show_link(out, "sound, each field at its border", bordering)?;
     show_outcome(out, "sound, outcome 2", 2, 2)?;
     show_outcome(out, "sound, outcome 4", 2, 4)?;
     show_outcome(out, "sound, outcome 8 of a working link", 1, 8)?;
-    let mut l = returned();
-    l.service = 255;
-    l.tx = 4294967295;
-    show_link(out, "sound, service 255 and transaction 4294967295", l)?;
+    let greatest = Link {
+        service: 255,
+        tx: 4294967295,
+        ..returned()
+    };
+    show_link(
+        out,
+        "sound, service 255 and transaction 4294967295",
+        greatest,
+    )?;
     let mut m = base();
-    let mut l = returned();
-    l.number = 5;
-    l.kind = 2;
-    m.links[3] = l;
+    m.links[3] = Link {
+        number: 5,
+        kind: 2,
+        ..returned()
+    };
     show(out, "sound, kind 2 past the last link", m)
 }

@@ -56,7 +56,12 @@ fn show_list(out: &impl Print, m: Store, calls: &[u32], places: usize) -> io::Re
 {
     let mut answers = [77; 6];
     let ran = monitor::run_list(m, calls, &mut answers[..places]);
-    print!(out; "{} {} answer {}", Code(ran.code), kept(m, ran.store), Code(answers[0]))
+    print!(out;
+        "{} {} answer {}",
+        Code(ran.code),
+        kept(m, ran.store),
+        Code(answers[0])
+    )
 }
 
 pub fn show(out: &impl Print, name: &str, record: Monitor) -> io::Result<()> {
@@ -95,7 +100,11 @@ pub fn lists(out: &impl Print) -> io::Result<()> {
 fn show_commit_after(out: &impl Print, name: &str, record: Monitor, end: Call) -> io::Result<()> {
     let ended = monitor::step(stored(record), end);
     let committed = monitor::step(ended.store, call(0, 4, 0, 0));
-    println!(out; "{name} {}, commit {}", Code(ended.answer.code), Code(committed.answer.code))
+    println!(out;
+        "{name} {}, commit {}",
+        Code(ended.answer.code),
+        Code(committed.answer.code)
+    )
 }
 
 // Sound records that no list of calls leads to. On lists these two rules show in no answer: a request that is given up leaves its transaction as
