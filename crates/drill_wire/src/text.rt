@@ -1,74 +1,71 @@
 // A turn's text, and the bytes that are sent for its call.
-ghost use Rattle.std.specs.Prelude.{◌≤◌, length};
+ghost use Rattle.std.specs.Prelude.{◌≤◌, length, IfSome};
 
+use hex_io::Hex;
+use monitor::Found;
 use rules::{Answer, Call};
+use std::io;
 
 // The number in an answer place. All but the code are of 32 bits.
 fn number_in(place: i64) -> u32 {
-    if place < 0 {
-        return 0;
-    }
-    (place as u64 % 4294967296) as u32
+    u32::try_from(place).unwrap_or(0)
 }
 
-fn answer_in(places: &[i64; 6]) -> Answer {
+fn answer_in([code, value, event, token, service, tx]: [i64; 6]) -> Answer {
     Answer {
-        code: places[0],
-        value: number_in(places[1]),
-        event: number_in(places[2]),
-        token: number_in(places[3]),
-        service: number_in(places[4]),
-        tx: number_in(places[5]),
+        code,
+        value: number_in(value),
+        event: number_in(event),
+        token: number_in(token),
+        service: number_in(service),
+        tx: number_in(tx),
     }
 }
 
-// Puts what is sent for a call into the buffer, and tells how many bytes that is: 0 where nothing is sent.
-fn put_sent(buffer: &mut [u8], call: Call, answer: Answer) -> usize
-    ensures { result ≤ length buffer.old }
+// Puts what is sent for a call into the buffer, and tells how many bytes that is; nothing where nothing is sent.
+fn put_sent(buffer: &mut [u8], call: Call, answer: Answer) -> Option<usize>
+    ensures { IfSome result (λ n. n ≤ length buffer.old) }
 {
-    let Some(request) = wire::wire_of(call, answer) else {
-        return 0;
-    };
-    wire::wire_write(&mut *buffer, request).unwrap_or(0)
+    let outgoing = wire::wire_of(call, answer);
+    if outgoing.count == 0 {
+        return None;
+    }
+    let written = wire::wire_write(buffer, outgoing.request);
+    if written.length == 0 {
+        return None;
+    }
+    Some(written.length)
 }
 
-// The place of a text's first line feed.
+// The place of a text's first line feed, or the text's end.
 fn line_end(text: &[u8]) -> usize
     ensures { result ≤ length text.now }
 {
-    let mut i = 0;
-    while i < text.len() {
-        if text[i] == 10 {
-            return i;
-        }
-        i += 1;
-    }
-    i
+    text.iter()
+        .position(|byte| *byte == b'\n')
+        .unwrap_or(text.len())
 }
 
 // Writes a text whose first line goes on with what is sent.
-fn write_with<P: Print>(out: &P, text: &[u8], sent: &[u8]) -> bool {
+fn write_with(out: &impl Print, text: &[u8], sent: &[u8]) -> io::Result<()> {
     let end = line_end(text);
-    let line = out.write_all(&text[0..end]).is_ok();
-    if !line {
-        return false;
-    }
-    let colon = out.write_all(b":").is_ok();
-    let bytes = hex_io::write_bytes(out, sent);
-    let rest = out.write_all(&text[end..]).is_ok();
-    colon & (bytes & rest)
+    out.write_all(&text[..end])?;
+    print!(out; ":{}", Hex(sent))?;
+    out.write_all(&text[end..])
 }
 
-// Writes the text of a turn that found this at its front, the answer in these places, and tells whether all of it was written. A sequence takes at most
-// 11 bytes.
-pub fn write_lines<P: Print>(out: &P, text: &[u8], found: Option<(Call, usize)>, places: &[i64; 6]) -> bool {
-    let Some((call, _)) = found else {
-        return out.write_all(text).is_ok();
-    };
-    let mut buffer = [0u8; 11];
-    let count = put_sent(&mut buffer, call, answer_in(places));
-    if count == 0 {
-        return out.write_all(text).is_ok();
+// Writes the text of a turn that found this at its front, the answer in these places. A sequence takes at most 11 bytes.
+pub fn write_lines(
+    out: &impl Print,
+    text: &[u8],
+    found: Found,
+    places: [i64; 6],
+) -> io::Result<()> {
+    if let Found::Whole(call, _) = found {
+        let mut buffer = [0; 11];
+        if let Some(count) = put_sent(&mut buffer, call, answer_in(places)) {
+            return write_with(out, text, &buffer[..count]);
+        }
     }
-    write_with(out, text, &buffer[0..count])
+    out.write_all(text)
 }

@@ -1,11 +1,11 @@
 -- Bytes as text.
-use Rattle.std.specs.Prelude.{ℕ, ◌/◌, ◌%◌, Bool, false, List, [], ◌∷◌}
+use Rattle.std.specs.Prelude.{ℕ, ◌-◌, ◌^◌, false, List, [], ◌∷◌}
 use Rattle.std.specs.List.{flat_map}
-use Rattle.std.specs.Fmt.{digit_glyph}
+use Rattle.std.specs.Fmt.{digits, format_spec, padded_integral}
 
--- a space and two hex digits, in lower case
+-- a space, and the hex digits in lower case, at least two: `hex_byte` of std says which two they are
 abbrev pub byte_text : ℕ → List ℕ
-byte_text b = 32 ∷ digit_glyph false (b / 16) ∷ digit_glyph false (b % 16) ∷ []
+byte_text b = 32 ∷ padded_integral (format_spec 32 0 4 2 (2 ^ 64 - 1)) false [] (digits 16 false b)
 
 abbrev pub hex_text : List ℕ → List ℕ
 hex_text = flat_map byte_text

@@ -1,147 +1,86 @@
 // Drill files and pieces of them, run by a library call.
-use super::show::{number, places, signed, text};
-use super::stored::{load, same, unsound};
+ghost use Rattle.std.specs.Prelude.{◌≤◌};
+
+use super::show::{ends, places};
+use super::stored::{PLACES, kept, load, unsound};
 use monitor::{FileRan, Store};
 use std::io;
 
-// Did any word of the record change?
-pub fn show_record(rt: &impl Print, before: Store, after: Store) -> io::Result<()> {
-    if same(before, after) {
-        text(rt, b", record kept")
-    } else {
-        text(rt, b", record changed")
-    }
-}
-
 fn show_ran(rt: &impl Print, before: Store, ran: FileRan, answers: &[i64]) -> io::Result<()> {
-    text(rt, b"code ")?;
-    signed(rt, ran.code)?;
-    text(rt, b", calls ")?;
-    number(rt, ran.calls as u64)?;
-    text(rt, b", used ")?;
-    number(rt, ran.used as u64)?;
-    let after = ran.store;
-    show_record(rt, before, after)?;
-    text(rt, b"\n")?;
+    print!(rt; "code {}, calls {}, used {}", ran.code, ran.calls, ran.used)?;
+    println!(rt; ", record {}", kept(before, ran.store))?;
     places(rt, answers)
 }
 
 fn show_file(
     rt: &impl Print,
     m: Store,
-    name: &[u8],
+    name: &str,
     input: &[u8],
     answers: &mut [i64],
 ) -> io::Result<()> {
-    text(rt, b"run_file ")?;
-    text(rt, name)?;
-    text(rt, b", ")?;
-    number(rt, input.len() as u64)?;
-    text(rt, b" bytes, ")?;
-    number(rt, answers.len() as u64)?;
-    text(rt, b" places: ")?;
-    let ran = monitor::run_file(m, input, &mut *answers);
+    print!(rt;
+        "run_file {name}, {} bytes, {} places: ",
+        input.len(),
+        answers.len()
+    )?;
+    let ran = monitor::run_file(m, input, answers);
     show_ran(rt, m, ran, answers)
 }
 
 fn show_piece(
     rt: &impl Print,
     m: Store,
-    name: &[u8],
+    name: &str,
     input: &[u8],
     last: bool,
     answers: &mut [i64],
 ) -> io::Result<()> {
-    text(rt, b"run_piece ")?;
-    text(rt, name)?;
-    text(rt, b", ")?;
-    number(rt, input.len() as u64)?;
-    if last {
-        text(rt, b" bytes, ends, ")?;
-    } else {
-        text(rt, b" bytes, goes on, ")?;
-    }
-    number(rt, answers.len() as u64)?;
-    text(rt, b" places: ")?;
-    let ran = monitor::run_piece(m, input, last, &mut *answers);
+    print!(rt; "run_piece {name}, {} bytes, {}, ", input.len(), ends(last))?;
+    print!(rt; "{} places: ", answers.len())?;
+    let ran = monitor::run_piece(m, input, last, answers);
     show_ran(rt, m, ran, answers)
 }
 
 // A stored file, with so many answer places.
-fn file(rt: &HostRuntime, m: Store, name: &str, count: usize) -> io::Result<()> {
-    let mut input = [0u8; 4096];
-    let n = load(rt, name, &mut input);
-    let mut answers = super::stored::places();
-    if count <= 237 {
-        show_file(rt, m, name.as_bytes(), &input[0..n], &mut answers[0..count])?;
-    }
-    Ok(())
+fn file(rt: &HostRuntime, m: Store, name: &str, count: usize) -> io::Result<()>
+    requires { count ≤ 237 }
+{
+    let input = load(rt, name);
+    let mut answers = [77; PLACES];
+    show_file(rt, m, name, input.as_slice(), &mut answers[..count])
 }
 
-fn piece(rt: &HostRuntime, m: Store, name: &str, last: bool, count: usize) -> io::Result<()> {
-    let mut input = [0u8; 4096];
-    let n = load(rt, name, &mut input);
-    let mut answers = super::stored::places();
-    if count <= 237 {
-        show_piece(
-            rt,
-            m,
-            name.as_bytes(),
-            &input[0..n],
-            last,
-            &mut answers[0..count],
-        )?;
-    }
-    Ok(())
+fn piece(rt: &HostRuntime, m: Store, name: &str, last: bool, count: usize) -> io::Result<()>
+    requires { count ≤ 237 }
+{
+    let input = load(rt, name);
+    let mut answers = [77; PLACES];
+    show_piece(rt, m, name, input.as_slice(), last, &mut answers[..count])
 }
 
-// Two calls, cut after a number of bytes.
-fn cut_file(rt: &impl Print, input: &[u8], cut: usize) -> io::Result<()> {
-    let mut answers = [77i64; 12];
-    if cut <= input.len() {
-        show_file(rt, Store::fresh(), b"case-06", &input[0..cut], &mut answers)?;
-    }
-    Ok(())
-}
-
-fn cut_piece(rt: &impl Print, input: &[u8], cut: usize) -> io::Result<()> {
-    let mut two = [77i64; 12];
-    let mut one = [77i64; 6];
-    if cut <= input.len() {
-        show_piece(
-            rt,
-            Store::fresh(),
-            b"case-06",
-            &input[0..cut],
-            false,
-            &mut two,
-        )?;
-        show_piece(
-            rt,
-            Store::fresh(),
-            b"case-06",
-            &input[0..cut],
-            true,
-            &mut one,
-        )?;
-    }
-    Ok(())
-}
-
+// Two calls, cut after each number of bytes.
 fn cut_files(rt: &impl Print, input: &[u8]) -> io::Result<()> {
-    let mut cut = 0;
-    while cut < input.len() + 1 {
-        cut_file(rt, input, cut)?;
-        cut += 1;
+    for cut in 0..=input.len() {
+        let mut two = [77; 12];
+        show_file(rt, Store::fresh(), "case-06", &input[..cut], &mut two)?;
     }
     Ok(())
 }
 
 fn cut_pieces(rt: &impl Print, input: &[u8]) -> io::Result<()> {
-    let mut cut = 0;
-    while cut < input.len() + 1 {
-        cut_piece(rt, input, cut)?;
-        cut += 1;
+    for cut in 0..=input.len() {
+        let mut two = [77; 12];
+        let mut one = [77; 6];
+        show_piece(
+            rt,
+            Store::fresh(),
+            "case-06",
+            &input[..cut],
+            false,
+            &mut two,
+        )?;
+        show_piece(rt, Store::fresh(), "case-06", &input[..cut], true, &mut one)?;
     }
     Ok(())
 }
@@ -166,10 +105,8 @@ fn whole_files(rt: &HostRuntime, m: Store) -> io::Result<()> {
 
 pub fn files(rt: &HostRuntime) -> io::Result<()> {
     whole_files(rt, Store::fresh())?;
-    let mut input = [0u8; 4096];
-    let n = load(rt, "case-06", &mut input);
-    cut_files(rt, &input[..n])?;
-    text(rt, b"last transaction number 60001\n")?;
+    cut_files(rt, load(rt, "case-06").as_slice())?;
+    println!(rt; "last transaction number 60001")?;
     let m = unsound();
     file(rt, m, "case-00", 27)?;
     file(rt, m, "case-00", 23)?;
@@ -193,10 +130,8 @@ fn whole_pieces(rt: &HostRuntime, m: Store) -> io::Result<()> {
 
 pub fn pieces(rt: &HostRuntime) -> io::Result<()> {
     whole_pieces(rt, Store::fresh())?;
-    let mut input = [0u8; 4096];
-    let n = load(rt, "case-06", &mut input);
-    cut_pieces(rt, &input[..n])?;
-    text(rt, b"last transaction number 60001\n")?;
+    cut_pieces(rt, load(rt, "case-06").as_slice())?;
+    println!(rt; "last transaction number 60001")?;
     let m = unsound();
     piece(rt, m, "case-00", false, 27)?;
     piece(rt, m, "case-43", true, 0)

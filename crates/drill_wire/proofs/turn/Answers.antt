@@ -1,13 +1,13 @@
 -- The text is within its lines, and where the file goes on what is kept leaves room.
-use Rattle.std.proofs.Common.{◌<◌, length, arith}
+use Rattle.std.proofs.Common.{◌≤◌, ◌<◌, length, arith}
 use Rattle.listing.proofs.Turns.{turn_fits, turn_leaves_room}
+use Rattle.drill_io.proofs.Room.{room_after}
 use Rattle.drill_wire.proofs.turn.Goals as goal
 
-pub slice_bounds-write_lines-end : goal.slice_bounds-write_lines-end
-slice_bounds-write_lines-end g c = omega (arith, turn_fits _ _ _ _ _ _ _ c.list_turn-turned.ensures, c.list_turn-turned.auto.out)
+pub shared_ref_as_front-write_lines : goal.shared_ref_as_front-write_lines
+shared_ref_as_front-write_lines g c = omega (arith, turn_fits _ _ _ _ _ _ _ c.list_turn-turned.ensures, c.list_turn-turned.auto.out)
 
 pub returns : goal.returns
-returns g c e =
-    let large : 30 < length c.waiting_for-waiting.new.input = omega (arith, c.waiting_for-waiting.auto.input) in
-    let on = c.after_turn.ensures.on e in
-    omega (arith, turn_leaves_room _ _ _ _ _ _ (omega arith) large _ c.list_turn-turned.ensures on, c.after_turn.ensures.kept, c.waiting_for-waiting.auto.input)
+returns g c =
+    room_after _ c.list_turn-turned.result _ _ c.after.ensures
+    (λ on. omega (arith, turn_leaves_room _ _ _ _ _ _ (omega arith) (omega arith) _ c.list_turn-turned.ensures on, c.wait.auto.input))
