@@ -7,14 +7,14 @@ mod text;
 ghost use Rattle.std.specs.Prelude.{◌≤◌, ◌<◌, length, IfOk, IfSome};
 
 use drill_io::{Failure, State, Waiting};
-use monitor::Found;
+use number::ReadError;
 use std::io::Read;
 
 // Is there a whole call at the front, or a bad number?
 fn is_ready(waiting: &[u8]) -> bool {
     matches!(
         monitor::read_call(waiting, 0),
-        Found::Whole(_, _) | Found::Malformed
+        Ok(Some(_)) | Err(ReadError::Malformed)
     )
 }
 
@@ -42,7 +42,10 @@ fn turn<R: Read>(
     ensures { IfOk result (λ next. IfSome next (λ s. s.waiting.count < length input.old)) }
 {
     let waiting = wait(source, input, state.waiting)?;
-    let found = monitor::read_call(&input[..waiting.count], 0);
+    let call = match monitor::read_call(&input[..waiting.count], 0) {
+        Ok(Some((call, _))) => Some(call),
+        _ => None,
+    };
     let mut answers = [0; 6];
     let mut lines = [0; 154];
     let turned = listing::list_turn(
@@ -53,7 +56,7 @@ fn turn<R: Read>(
         &mut answers,
         &mut lines,
     );
-    let Ok(()) = text::write_lines(out, &lines[..turned.written], found, answers) else {
+    let Ok(()) = text::write_lines(out, &lines[..turned.written], call, answers) else {
         return Err(Failure::CannotWrite);
     };
     Ok(State::after(turned, waiting.ended))

@@ -1,8 +1,7 @@
 // A turn's text, and the bytes that are sent for its call.
-ghost use Rattle.std.specs.Prelude.{◌≤◌, length, IfSome};
+ghost use Rattle.std.specs.Prelude.{◌≤◌, length};
 
 use hex_io::Hex;
-use monitor::Found;
 use rules::{Answer, Call};
 use std::io;
 
@@ -22,19 +21,11 @@ fn answer_in([code, value, event, token, service, tx]: [i64; 6]) -> Answer {
     }
 }
 
-// Puts what is sent for a call into the buffer, and tells how many bytes that is; nothing where nothing is sent.
-fn put_sent(buffer: &mut [u8], call: Call, answer: Answer) -> Option<usize>
-    ensures { IfSome result (λ n. n ≤ length buffer.old) }
-{
-    let outgoing = wire::wire_of(call, answer);
-    if outgoing.count == 0 {
-        return None;
-    }
-    let written = wire::wire_write(buffer, outgoing.request);
-    if written.length == 0 {
-        return None;
-    }
-    Some(written.length)
+// The bytes that are sent for a call, put into the buffer; nothing where nothing is sent.
+fn sent(buffer: &mut [u8], call: Call, answer: Answer) -> Option<&[u8]> {
+    let request = wire::wire_of(call, answer)?;
+    let count = wire::wire_write(buffer, request).ok()?;
+    buffer.get(..count)
 }
 
 // The place of a text's first line feed, or the text's end.
@@ -54,18 +45,16 @@ fn write_with(out: &impl Print, text: &[u8], sent: &[u8]) -> io::Result<()> {
     out.write_all(&text[end..])
 }
 
-// Writes the text of a turn that found this at its front, the answer in these places. A sequence takes at most 11 bytes.
+// Writes the text of a turn with this call at its front, the answer in these places. A sequence takes at most 11 bytes.
 pub fn write_lines(
     out: &impl Print,
     text: &[u8],
-    found: Found,
+    call: Option<Call>,
     places: [i64; 6],
 ) -> io::Result<()> {
-    if let Found::Whole(call, _) = found {
-        let mut buffer = [0; 11];
-        if let Some(count) = put_sent(&mut buffer, call, answer_in(places)) {
-            return write_with(out, text, &buffer[..count]);
-        }
+    let mut buffer = [0; 11];
+    match call.and_then(|call| sent(&mut buffer, call, answer_in(places))) {
+        Some(bytes) => write_with(out, text, bytes),
+        None => out.write_all(text),
     }
-    out.write_all(text)
 }

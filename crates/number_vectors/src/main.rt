@@ -3,6 +3,7 @@
 
 ghost use Rattle.std.specs.Prelude.{◌<◌};
 
+use hex_io::Hex;
 use number::{NoRoom, ReadError};
 use std::io;
 
@@ -12,50 +13,23 @@ const VALUES: [u32; 14] = [
     2147483648, 4294967295,
 ];
 
-fn show_bytes(out: &impl Print, bytes: &[u8]) {
-    hex_io::write_bytes(out, bytes);
-}
-
 fn show_read(out: &impl Print, input: &[u8], place: usize) -> io::Result<()> {
-    out.write_all(b"read")?;
-    show_bytes(out, input);
-    out.write_all(b" at ")?;
-    out.print(place)?;
+    print!(out; "read{} at {place}: ", Hex(input))?;
     match number::decode(input, place) {
-        Ok((value, next)) => {
-            out.write_all(b": ")?;
-            out.print(value)?;
-            out.write_all(b" next ")?;
-            out.print(next)?;
-        }
-        Err(ReadError::CutShort) => {
-            out.write_all(b": refused 17")?;
-        }
-        Err(ReadError::Malformed) => {
-            out.write_all(b": refused 18")?;
-        }
+        Ok((value, next)) => println!(out; "{value} next {next}"),
+        Err(ReadError::CutShort) => println!(out; "refused 17"),
+        Err(ReadError::Malformed) => println!(out; "refused 18"),
     }
-    out.write_all(b"\n")
 }
 
 // Writes a number, shows the whole buffer, and reads at the same place.
 fn show_write(out: &impl Print, buffer: &mut [u8], place: usize, value: u32) -> io::Result<()> {
-    out.write_all(b"write ")?;
-    out.print(value)?;
-    out.write_all(b" at ")?;
-    out.print(place)?;
+    print!(out; "write {value} at {place}: ")?;
     match number::encode(buffer, place, value) {
-        Ok(next) => {
-            out.write_all(b": next ")?;
-            out.print(next)?;
-        }
-        Err(NoRoom) => {
-            out.write_all(b": refused 16")?;
-        }
+        Ok(next) => print!(out; "next {next}")?,
+        Err(NoRoom) => print!(out; "refused 16")?,
     }
-    out.write_all(b" in")?;
-    show_bytes(out, buffer);
-    out.write_all(b"\n")?;
+    println!(out; " in{}", Hex(buffer))?;
     show_read(out, buffer, place)
 }
 

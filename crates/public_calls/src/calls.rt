@@ -1,7 +1,8 @@
 // Calls read from the bytes of a drill file, and written into a buffer.
 use super::stored::load;
 use hex_io::Hex;
-use monitor::{Found, Written};
+use monitor::WriteError;
+use number::ReadError;
 use rules::Call;
 use std::io;
 
@@ -16,14 +17,14 @@ fn show_call(rt: &impl Print, call: Call) -> io::Result<()> {
 fn show_read(rt: &impl Print, name: &str, input: &[u8], place: usize) -> io::Result<usize> {
     print!(rt; "read_call {name} at {place}: ")?;
     match monitor::read_call(input, place) {
-        Found::Whole(call, next) => {
+        Ok(Some((call, next))) => {
             show_call(rt, call)?;
             println!(rt; ", next {next}")?;
             return Ok(next);
         }
-        Found::End => println!(rt; "end")?,
-        Found::CutShort => println!(rt; "17")?,
-        Found::Malformed => println!(rt; "18")?,
+        Ok(None) => println!(rt; "end")?,
+        Err(ReadError::CutShort) => println!(rt; "17")?,
+        Err(ReadError::Malformed) => println!(rt; "18")?,
     }
     Ok(place)
 }
@@ -49,7 +50,7 @@ pub fn numbers(input: &[u8]) -> [u32; 234] {
     let mut list = [0; 234];
     let mut at = 0;
     for places in list.chunks_mut(6) {
-        let Found::Whole(call, next) = monitor::read_call(input, at) else {
+        let Ok(Some((call, next))) = monitor::read_call(input, at) else {
             break;
         };
         let numbers = [call.clock, call.party, call.kind, call.a, call.b, call.c];
@@ -69,9 +70,9 @@ fn show_write(rt: &impl Print, list: &[u32], place: usize, buffer: &mut [u8]) ->
         buffer.len()
     )?;
     match monitor::write_calls(buffer, place, list) {
-        Written::Next(next) => print!(rt; "next {next}")?,
-        Written::NoRoom => print!(rt; "16")?,
-        Written::Unfinished => print!(rt; "17")?,
+        Ok(next) => print!(rt; "next {next}")?,
+        Err(WriteError::NoRoom) => print!(rt; "16")?,
+        Err(WriteError::Unfinished) => print!(rt; "17")?,
     }
     println!(rt; ",{}", Hex(buffer))?;
     let next = show_read(rt, "there", buffer, place)?;

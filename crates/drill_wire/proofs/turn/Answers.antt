@@ -4,8 +4,8 @@ use Rattle.listing.proofs.Turns.{turn_fits, turn_leaves_room}
 use Rattle.drill_io.proofs.Room.{room_after}
 use Rattle.drill_wire.proofs.turn.Goals as goal
 
-pub shared_ref_as_front-write_lines : goal.shared_ref_as_front-write_lines
-shared_ref_as_front-write_lines g c = omega (arith, turn_fits _ _ _ _ _ _ _ c.list_turn-turned.ensures, c.list_turn-turned.auto.out)
+pub slice_bounds-write_lines-end : goal.slice_bounds-write_lines-end
+slice_bounds-write_lines-end g c = omega (arith, turn_fits _ _ _ _ _ _ _ c.list_turn-turned.ensures, c.list_turn-turned.auto.out)
 
 pub returns : goal.returns
 returns g c =

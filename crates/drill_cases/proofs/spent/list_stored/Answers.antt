@@ -3,5 +3,5 @@ use Rattle.std.proofs.Common.{arith}
 use Rattle.listing.proofs.Pieces.{written_fits}
 use Rattle.drill_cases.proofs.spent.list_stored.Goals as goal
 
-pub shared_ref_as_front-write_all : goal.shared_ref_as_front-write_all
-shared_ref_as_front-write_all g c = omega (arith, written_fits _ _ _ _ _ _ c.list_piece-listed.ensures, c.list_piece-listed.auto.out)
+pub slice_bounds-write_all-end : goal.slice_bounds-write_all-end
+slice_bounds-write_all-end g c = omega (arith, written_fits _ _ _ _ _ _ c.list_piece-listed.ensures, c.list_piece-listed.auto.out)
