@@ -5,7 +5,7 @@ use Rattle.drill_io.specs.declared.State.{State}
 
 pub room_after : (room : ℕ) (turned : Turned) (ended : Bool) (next : Option State)
     → MatchOption next (turned.over ≡ true)
-      (λ s. (turned.over ≡ false) × (s ≡ record { store = turned.store; waiting = record { count = turned.kept; ended = ended } }))
+    (λ s. (turned.over ≡ false) × (s ≡ record { store = turned.store; waiting = record { count = turned.kept; ended = ended } }))
     → (turned.over ≡ false → turned.kept < room)
     → IfSome next (λ s. s.waiting.count < room)
 room_after room turned ended None after kept = tt

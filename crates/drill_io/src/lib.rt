@@ -23,6 +23,7 @@ impl Waiting {
     // the input's end.
     pub fn receive<R: Read>(self, source: &mut R, input: &mut [u8]) -> Result<Waiting, Failure>
         ensures within { IfOk result (λ w. w.count ≤ length input.old) }
+        ensures onward { IfOk result (λ w. self.count ≤ length input.old → self.count ≤ w.count) }
         ensures kept { take self.count input.new ≡ take self.count input.old }
         ensures error { IfErr result (λ e. e ≡ Failure.CannotRead) }
     {
@@ -35,9 +36,9 @@ impl Waiting {
         if self.ended {
             return Ok(self);
         }
-        let Ok(more) = source.read(&mut input[self.count..]) else {
-            return Err(Failure::CannotRead);
-        };
+        let more = source
+            .read(&mut input[self.count..])
+            .map_err(|_| Failure::CannotRead)?;
         Ok(Waiting {
             count: self.count + more,
             ended: more == 0,
@@ -122,9 +123,8 @@ impl Buffers {
             &mut self.answers,
             &mut self.output,
         );
-        let Ok(()) = out.write_all(&self.output[..turned.written]) else {
-            return Err(Failure::CannotWrite);
-        };
+        out.write_all(&self.output[..turned.written])
+            .map_err(|_| Failure::CannotWrite)?;
         Ok(State::after(turned, waiting.ended))
     }
 }

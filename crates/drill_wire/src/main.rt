@@ -56,13 +56,13 @@ fn turn<R: Read>(
         &mut answers,
         &mut lines,
     );
-    let Ok(()) = text::write_lines(out, &lines[..turned.written], call, answers) else {
-        return Err(Failure::CannotWrite);
-    };
+    let written = text::write_lines(out, &lines[..turned.written], call, answers);
+    written.map_err(|_| Failure::CannotWrite)?;
     Ok(State::after(turned, waiting.ended))
 }
 
-// Lists the drill file that a reader gives, up to its end, a bad number or a failure.
+// Lists the drill file that a reader gives, up to its end, a bad number or a failure. The loop of `drill_io` over other turns: one loop for both would take
+// the turn as a closure, with clauses longer than this.
 fn list<R: Read>(source: &mut R, out: &impl Print) -> Result<(), Failure> {
     let mut input = [0; 4096];
     let mut state = State::fresh();
