@@ -1,5 +1,5 @@
 -- The text is within its lines, and where the file goes on what is kept leaves room.
-use Rattle.std.proofs.Common.{◌≤◌, ◌<◌, length, arith}
+use Rattle.std.proofs.Common.{arith}
 use Rattle.listing.proofs.Turns.{turn_fits, turn_leaves_room}
 use Rattle.drill_io.proofs.Room.{room_after}
 use Rattle.drill_wire.proofs.turn.Goals as goal
