@@ -10,7 +10,7 @@ use Rattle.rules.specs.declared.Answer.{Answer}
 use Rattle.rules.specs.declared.Stepped.{Stepped}
 use Rattle.rules.specs.Choice.{pick, same}
 use Rattle.rules.specs.Lists.{collect}
-use Rattle.rules.specs.Codes.{tp_accepted, code_of}
+use Rattle.rules.specs.Codes.{tp_accepted, list_run, code_of}
 use Rattle.rules.specs.declared.refusal.Refusal.{Refusal}
 use Rattle.rules.specs.Record.{ruled, fresh_link, blanks, party, live, with_links, replaced}
 use Rattle.rules.specs.Transaction.{owner_of, late}
@@ -119,6 +119,11 @@ told_of (Err why) = told_code (code_of why)
 abbrev pub asked : Result Unit Refusal → Monitor → Ruled → Ruled
 asked (Ok _) m rest = rest
 asked (Err why) m rest = ruled m (code_of why)
+
+-- how a list of calls was answered
+abbrev pub list_code : Result Unit Refusal → ℤ
+list_code (Ok _) = list_run
+list_code (Err why) = code_of why
 
 abbrev pub stepped : Answer → Monitor → Stepped
 stepped r m = record { monitor = m; answer = r }

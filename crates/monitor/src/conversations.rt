@@ -1,14 +1,13 @@
 // Kinds 17 to 19: send, receive and disconnect on a conversation.
-ghost use Rattle.std.specs.Prelude.{◌≡◌, ◌<◌, ◌≤◌, length};
+ghost use Rattle.std.specs.Prelude.{◌≡◌, ◌<◌, ◌≤◌};
 ghost use Rattle.rules.specs.Record.{place_of, notified, with_sent, without_oldest};
 ghost use Rattle.rules.specs.Conversations.{originator_end, server_end, any_end, hears_disconnect, hears_return, end_side, is_sender, tells_disconnect};
 ghost use Rattle.rules.specs.Conversations.{tells_return, send_on, send_of, carries_grant, received, receive_on, receive_of, disconnected_at, disconnect_of};
-ghost use Rattle.monitor.specs.Words.{words};
 ghost use Rattle.monitor.specs.View.{view, ruled_by, told_of};
 
-use super::party::PartyNumber;
 use super::Told;
-use super::links::{accept, coded, disconnect_link, find_link, is_own_end, remove_at};
+use super::links::{accept, disconnect_link, find_link, is_own_end, remove_at};
+use super::party::PartyNumber;
 use super::transaction::{is_expired, set_rollback_only};
 use super::words::{WORDS, link_at, put_link};
 use rules::{Link, Refusal, codes};
@@ -167,7 +166,13 @@ pub(crate) fn send_on(
 }
 
 // Kind 17.
-pub(crate) fn tpsend(s: &mut [u32; WORDS], p: PartyNumber, a: u32, b: u32, c: u32) -> Result<Told, Refusal>
+pub(crate) fn tpsend(
+    s: &mut [u32; WORDS],
+    p: PartyNumber,
+    a: u32,
+    b: u32,
+    c: u32,
+) -> Result<Told, Refusal>
     requires { (view s.old).count ≤ 32 }
     ensures { ruled_by (told_of result) (view s.new) ≡ send_of (view s.old) p.index a b c }
 {
@@ -231,7 +236,13 @@ pub(crate) fn receive(s: &mut [u32; WORDS], p: PartyNumber, i: usize, a: u32, l:
 }
 
 // Kind 18, on the link l with the number a, which stands at the place i.
-pub(crate) fn receive_on(s: &mut [u32; WORDS], p: PartyNumber, i: usize, a: u32, l: Link) -> Result<Told, Refusal>
+pub(crate) fn receive_on(
+    s: &mut [u32; WORDS],
+    p: PartyNumber,
+    i: usize,
+    a: u32,
+    l: Link,
+) -> Result<Told, Refusal>
     requires { ((view s.old).count ≤ 32) × (i ≡ place_of (view s.old) a) × (i < (view s.old).count) }
     ensures { ruled_by (told_of result) (view s.new) ≡ receive_on (view s.old) p.index a l }
 {

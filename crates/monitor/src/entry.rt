@@ -10,7 +10,7 @@ ghost use Rattle.monitor.specs.View.{view, stepped};
 
 use super::equality::equal_in;
 use super::file::{Passed, file_on};
-use super::run::run_on;
+use super::run::{list_code, run_on};
 use super::sound::is_sound_in;
 use super::steps::step_on;
 use super::words::{Store, WORDS, clear};
@@ -27,7 +27,7 @@ pub fn monitor_step(m: &mut Store, call: Call) -> Answer
 pub fn monitor_run(m: &mut Store, calls: &[u32], answers: &mut [i64]) -> i64
     ensures { listed result (view m.new.words) answers.new ≡ list_of (view m.old.words) calls.now answers.old }
 {
-    run_on(&mut m.words, calls, answers)
+    list_code(run_on(&mut m.words, calls, answers))
 }
 
 // A drill file, and its answers, six places a call.

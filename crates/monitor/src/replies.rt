@@ -1,16 +1,15 @@
 // Kinds 15 and 16: a request's reply fetched, or given up.
-ghost use Rattle.std.specs.Prelude.{◌≡◌, true, ◌<◌, ◌≤◌, length};
+ghost use Rattle.std.specs.Prelude.{◌≡◌, true, ◌<◌, ◌≤◌};
 ghost use Rattle.rules.specs.Lists.{first_of, any_of};
 ghost use Rattle.rules.specs.Record.{is_ending, live, place_of};
 ghost use Rattle.rules.specs.Replies.{request_end, outcome_code, fetched, fetch_one, expired_end, replied_end, next_reply, fetch_any, fetch_of};
 ghost use Rattle.rules.specs.Replies.{cancelled, cancel_of};
 ghost use Rattle.rules.specs.Sound.{sound};
-ghost use Rattle.monitor.specs.Words.{words};
 ghost use Rattle.monitor.specs.View.{view, link_in, place_among, ruled_by, told_of};
 
-use super::party::PartyNumber;
 use super::Told;
-use super::links::{accept, close_end, coded, find_link, is_own_end, remove_at};
+use super::links::{accept, close_end, find_link, is_own_end, remove_at};
+use super::party::PartyNumber;
 use super::searches::first_link;
 use super::transaction::is_expired;
 use super::words::{
@@ -152,7 +151,12 @@ pub(crate) fn fetch_any(s: &mut [u32; WORDS], p: PartyNumber) -> Result<Told, Re
 }
 
 // Kind 15.
-pub(crate) fn tpgetrply(s: &mut [u32; WORDS], p: PartyNumber, a: u32, b: u32) -> Result<Told, Refusal>
+pub(crate) fn tpgetrply(
+    s: &mut [u32; WORDS],
+    p: PartyNumber,
+    a: u32,
+    b: u32,
+) -> Result<Told, Refusal>
     requires { sound (view s.old) ≡ true }
     ensures { ruled_by (told_of result) (view s.new) ≡ fetch_of (view s.old) p.index a b }
 {

@@ -7,9 +7,9 @@ ghost use Rattle.rules.specs.Requests.{no_reply, no_tran, recv_only, connect_fla
 ghost use Rattle.rules.specs.Requests.{dispatch_event, dispatched, next_waiting, dispatch_of};
 ghost use Rattle.monitor.specs.View.{view, asked, place_among, ruled_by, told_of};
 
-use super::party::PartyNumber;
 use super::Told;
 use super::links::{accept, has_own_end};
+use super::party::PartyNumber;
 use super::searches::first_link;
 use super::services::{in_set, is_offered, is_offering, is_service};
 use super::transaction::{is_late_at, live_owner, tx_of};
@@ -163,7 +163,13 @@ pub(crate) fn open_link(
 }
 
 // Kind 12.
-pub(crate) fn tpacall(s: &mut [u32; WORDS], p: PartyNumber, a: u32, b: u32, c: u32) -> Result<Told, Refusal>
+pub(crate) fn tpacall(
+    s: &mut [u32; WORDS],
+    p: PartyNumber,
+    a: u32,
+    b: u32,
+    c: u32,
+) -> Result<Told, Refusal>
     requires { (view s.old).count ≤ 32 }
     ensures { ruled_by (told_of result) (view s.new) ≡ request_of (view s.old) p.index a b c }
 {
@@ -185,7 +191,13 @@ pub(crate) fn tpacall(s: &mut [u32; WORDS], p: PartyNumber, a: u32, b: u32, c: u
 }
 
 // Kind 13.
-pub(crate) fn tpconnect(s: &mut [u32; WORDS], p: PartyNumber, a: u32, b: u32, c: u32) -> Result<Told, Refusal>
+pub(crate) fn tpconnect(
+    s: &mut [u32; WORDS],
+    p: PartyNumber,
+    a: u32,
+    b: u32,
+    c: u32,
+) -> Result<Told, Refusal>
     requires { (view s.old).count ≤ 32 }
     ensures { ruled_by (told_of result) (view s.new) ≡ connect_of (view s.old) p.index a b c }
 {

@@ -1,18 +1,17 @@
 // Kinds 20 and 21: a service returns, and a party dies.
-ghost use Rattle.std.specs.Prelude.{◌≡◌, ◌<◌, ◌≤◌, length, option_to_list};
+ghost use Rattle.std.specs.Prelude.{◌≡◌, ◌<◌, ◌≤◌, option_to_list};
 ghost use Rattle.rules.specs.Lists.{first_of};
 ghost use Rattle.rules.specs.Record.{is_server_free, own_end, live, with_parties};
 ghost use Rattle.rules.specs.Return.{plain_outcome, outcome_of, unread_after, close_end, rollback_only_by, close_own, end_own, rollback_only_served, serves_none, ending_of, hand_back, leave, return_with, return_of, died_out, after_death, terminate_of};
-ghost use Rattle.monitor.specs.Words.{words};
 ghost use Rattle.monitor.specs.View.{view, ruled_by, told_of};
 
-use super::party::PartyNumber;
 use super::Told;
 use super::conversations::is_originator_end;
 use super::links::{
-    accept, change_at, close_end, coded, disconnect_link, drop_unread, first_own, has_own_end,
-    is_own_end, live_at, place_of, remove_at, sweep,
+    accept, change_at, close_end, disconnect_link, drop_unread, first_own, has_own_end, is_own_end,
+    live_at, place_of, remove_at, sweep,
 };
+use super::party::PartyNumber;
 use super::transaction::{end_tx, first_of_tx, set_rollback_only};
 use super::words::{WORDS, count, link_at, owned_at, party_at, put_party, served_at};
 use rules::{Link, Party, Refusal, codes};
@@ -202,7 +201,12 @@ pub(crate) fn return_with(s: &mut [u32; WORDS], p: PartyNumber, o: u32, c: u32) 
 }
 
 // Kind 20.
-pub(crate) fn tpreturn(s: &mut [u32; WORDS], p: PartyNumber, a: u32, c: u32) -> Result<Told, Refusal>
+pub(crate) fn tpreturn(
+    s: &mut [u32; WORDS],
+    p: PartyNumber,
+    a: u32,
+    c: u32,
+) -> Result<Told, Refusal>
     requires { (view s.old).count ≤ 32 }
     ensures { ruled_by (told_of result) (view s.new) ≡ return_of (view s.old) p.index a c }
 {

@@ -3,13 +3,13 @@ ghost use Rattle.std.specs.Prelude.{◌≡◌, true, ◌++◌, ◌+◌, ◌*◌,
 ghost use Rattle.rules.specs.Sound.{sound};
 ghost use Rattle.rules.specs.Run.{call_at, places_of, ran_of, answers_of, listed, list_of};
 ghost use Rattle.monitor.specs.Words.{words};
-ghost use Rattle.monitor.specs.View.{view};
+ghost use Rattle.monitor.specs.View.{list_code, view};
 
 use super::Ran;
 use super::sound::is_sound_in;
 use super::steps::call_on;
 use super::words::{Store, WORDS};
-use rules::{Answer, Call, codes};
+use rules::{Answer, Call, Refusal, codes};
 
 // The call that starts at a place of the list.
 #[tactic(auto, unfolding(rules::specs::Run::call_at))]
@@ -57,29 +57,43 @@ pub(crate) fn run(s: &mut [u32; WORDS], calls: &[u32], out: &mut [i64], n: usize
     }
 }
 
-// A whole list, on whatever record is lent: 0, 17, 16 or 19.
+// A whole list, on whatever record is lent.
 #[tactic(auto, unfolding(rules::specs::Run::list_of, rules::specs::Choice::pick))]
-pub(crate) fn run_on(s: &mut [u32; WORDS], calls: &[u32], answers: &mut [i64]) -> i64
-    ensures { listed result (view s.new) answers.new ≡ list_of (view s.old) calls.now answers.old }
+pub(crate) fn run_on(
+    s: &mut [u32; WORDS],
+    calls: &[u32],
+    answers: &mut [i64],
+) -> Result<(), Refusal>
+    ensures { listed (list_code result) (view s.new) answers.new ≡ list_of (view s.old) calls.now answers.old }
 {
     if calls.len() % 6 != 0 {
-        return codes::CUT_SHORT;
+        return Err(Refusal::CutShort);
     }
     if answers.len() < calls.len() {
-        return codes::TOO_LITTLE_ROOM;
+        return Err(Refusal::TooLittleRoom);
     }
     if !is_sound_in(s) {
-        return codes::UNSOUND;
+        return Err(Refusal::Unsound);
     }
     let n = calls.len() / 6;
     run(s, calls, answers, n);
-    codes::LIST_RUN
+    Ok(())
+}
+
+// How it was answered: 0, 17, 16 or 19.
+pub(crate) fn list_code(ran: Result<(), Refusal>) -> i64
+    ensures { result ≡ list_code ran }
+{
+    match ran {
+        Ok(()) => codes::LIST_RUN,
+        Err(why) => why.code(),
+    }
 }
 
 // A whole list.
 pub fn run_list(mut m: Store, calls: &[u32], answers: &mut [i64]) -> Ran
     ensures { listed result.code (view result.store.words) answers.new ≡ list_of (view m.words) calls.now answers.old }
 {
-    let code = run_on(&mut m.words, calls, answers);
+    let code = list_code(run_on(&mut m.words, calls, answers));
     Ran { store: m, code }
 }

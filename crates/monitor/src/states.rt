@@ -1,8 +1,7 @@
 // The TX state table: nine calls by five states.
-ghost use Rattle.std.specs.Prelude.{◌≡◌, ◌-◌, ◌<◌, ◌≤◌, length};
+ghost use Rattle.std.specs.Prelude.{◌≡◌, ◌-◌, ◌<◌, ◌≤◌};
 ghost use Rattle.rules.specs.States.{state_of, next_of, in_state, entered};
 ghost use Rattle.monitor.specs.States.{state_number, chained_of, next_number, call_number};
-ghost use Rattle.monitor.specs.Words.{words};
 ghost use Rattle.monitor.specs.View.{view};
 
 use self::State::{S0, S1, S2, S3, S4};

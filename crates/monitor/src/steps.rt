@@ -1,15 +1,16 @@
 // One call: the questions before the kind's, the clock, the kind's rule, the answer's last field.
-ghost use Rattle.std.specs.Prelude.{◌≡◌, true, ◌<◌, ◌≤◌, length};
+ghost use Rattle.std.specs.Prelude.{◌≡◌, true, ◌<◌, ◌≤◌};
+ghost use Rattle.rules.specs.Codes.{code_of};
 ghost use Rattle.rules.specs.Sound.{sound};
 ghost use Rattle.rules.specs.Step.{rule_of, advanced, answered_to, call_of, step_of};
 ghost use Rattle.monitor.specs.Kinds.{kind_number};
 ghost use Rattle.monitor.specs.Words.{words};
 ghost use Rattle.monitor.specs.View.{view, ruled_by, told_of, stepped, code_answer};
 
-use super::party::PartyNumber;
 use super::conversations::{tpdiscon, tprecv, tpsend};
 use super::kinds::Kind;
 use super::links::coded;
+use super::party::PartyNumber;
 use super::replies::{tpcancel, tpgetrply};
 use super::requests::{dispatch, tpacall, tpconnect};
 use super::returns::{terminate, tpreturn};
@@ -24,11 +25,18 @@ use super::tx::{
 use super::votes::report;
 use super::words::{Store, WORDS, clock, set_clock};
 use super::{Stepped, Told};
-use rules::{Answer, Call, Refusal, codes};
+use rules::{Answer, Call, Refusal};
 
 // Each kind decides by its number.
 #[tactic(auto, using(crate::proofs::Laws::sound_room), unfolding(rules::specs::Step::rule_of, rules::specs::Choice::pick))]
-pub(crate) fn rule(s: &mut [u32; WORDS], p: PartyNumber, kind: Kind, a: u32, b: u32, c: u32) -> Result<Told, Refusal>
+pub(crate) fn rule(
+    s: &mut [u32; WORDS],
+    p: PartyNumber,
+    kind: Kind,
+    a: u32,
+    b: u32,
+    c: u32,
+) -> Result<Told, Refusal>
     requires { sound (view s.old) ≡ true }
     ensures { ruled_by (told_of result) (view s.new) ≡ rule_of (view s.old) p.index (kind_number kind) a b c }
 {
@@ -95,11 +103,11 @@ pub(crate) fn tell(s: &[u32; WORDS], r: Result<Told, Refusal>, p: PartyNumber) -
 }
 
 // The answer to questions 19, 20 and 21.
-pub(crate) fn turn_down(code: i64) -> Answer
-    ensures { result ≡ code_answer code }
+pub(crate) fn turn_down(why: Refusal) -> Answer
+    ensures { result ≡ code_answer (code_of why) }
 {
     Answer {
-        code,
+        code: why.code(),
         value: 0,
         event: 0,
         token: 0,
@@ -114,10 +122,10 @@ pub(crate) fn call_on(s: &mut [u32; WORDS], c: Call) -> Answer
     ensures { (stepped result (view s.new) ≡ call_of (view s.old) c) × (sound (view s.new) ≡ true) }
 {
     let Ok(kind) = Kind::try_from(c.kind) else {
-        return turn_down(codes::UNKNOWN_KIND);
+        return turn_down(Refusal::UnknownKind);
     };
     let Ok(p) = PartyNumber::try_from(c.party) else {
-        return turn_down(codes::UNKNOWN_PARTY);
+        return turn_down(Refusal::UnknownParty);
     };
     advance(s, c.clock);
     let r = rule(s, p, kind, c.a, c.b, c.c);
@@ -130,7 +138,7 @@ pub(crate) fn step_on(s: &mut [u32; WORDS], call: Call) -> Answer
 {
     let ok = is_sound_in(s);
     if !ok {
-        return turn_down(codes::UNSOUND);
+        return turn_down(Refusal::Unsound);
     }
     call_on(s, call)
 }

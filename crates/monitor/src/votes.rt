@@ -1,14 +1,13 @@
 // Kind 22: what the resource managers report; and how their reports decide a commit.
-ghost use Rattle.std.specs.Prelude.{◌≡◌, ◌<◌, ◌≤◌, length};
+ghost use Rattle.std.specs.Prelude.{◌≡◌, ◌<◌, ◌≤◌};
 ghost use Rattle.rules.specs.Lists.{any_of};
 ghost use Rattle.rules.specs.Votes.{report_number, report_is, report_of, vote_code, commit_code, all_can_start};
 ghost use Rattle.monitor.specs.Ending.{EndCode};
-ghost use Rattle.monitor.specs.Words.{words};
 ghost use Rattle.monitor.specs.View.{view, ruled_by, told_of};
 
-use super::party::PartyNumber;
 use super::Told;
-use super::links::{accept, coded};
+use super::links::accept;
+use super::party::PartyNumber;
 use super::transaction::is_owner;
 use super::words::{WORDS, party_at, put_party};
 use rules::{Refusal, codes};
@@ -96,7 +95,13 @@ pub(crate) fn commit_code(can: bool, rs: [u32; 4]) -> i64
 }
 
 // Kind 22.
-pub(crate) fn report(s: &mut [u32; WORDS], p: PartyNumber, a: u32, b: u32, c: u32) -> Result<Told, Refusal>
+pub(crate) fn report(
+    s: &mut [u32; WORDS],
+    p: PartyNumber,
+    a: u32,
+    b: u32,
+    c: u32,
+) -> Result<Told, Refusal>
     requires { (view s.old).count ≤ 32 }
     ensures { ruled_by (told_of result) (view s.new) ≡ report_of (view s.old) p.index a b c }
 {

@@ -1,5 +1,5 @@
 // Turns of the drill program, run by a library call.
-ghost use Rattle.std.specs.Prelude.{◌≤◌, length};
+ghost use Rattle.std.specs.Prelude.{◌≤◌};
 
 use super::show;
 use super::stored::{PLACES, kept, load, unsound};

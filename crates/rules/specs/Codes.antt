@@ -2,7 +2,7 @@
 -- Assumes nothing.
 use Rattle.std.specs.Prelude.{ℕ, ℤ, pos, negsuc, ◌+ℤ◌}
 use Rattle.rules.specs.declared.refusal.Refusal.{Refusal}
-use Rattle.rules.specs.declared.refusal.Refusal.TheVariants.{TxProtocolError, TxError, TxEinval, UnknownKind, BadArgument, NotAllowedNow, NoSuchEnd, NotOffered}
+use Rattle.rules.specs.declared.refusal.Refusal.TheVariants.{TooLittleRoom, CutShort, Unsound, UnknownKind, UnknownParty, TxProtocolError, TxError, TxEinval, BadArgument, NotAllowedNow, NoSuchEnd, NotOffered}
 use Rattle.rules.specs.declared.refusal.Refusal.TheVariants.{NoRoomLeft, InTransaction, TimedOut, NothingWaiting, BadReport, NotPermitted, NoReplyYet, NothingUnread, UnreadFull}
 
 -- ---- TX (document 002)
@@ -195,10 +195,14 @@ tp_fail = 2
 
 -- ---- the number of each reason for a refusal
 abbrev pub code_of : Refusal → ℤ
+code_of TooLittleRoom = too_little_room
+code_of CutShort = cut_short
+code_of Unsound = unsound
+code_of UnknownKind = unknown_kind
+code_of UnknownParty = unknown_party
 code_of TxProtocolError = tx_protocol_error
 code_of TxError = tx_error
 code_of TxEinval = tx_einval
-code_of UnknownKind = unknown_kind
 code_of BadArgument = bad_argument
 code_of NotAllowedNow = not_allowed_now
 code_of NoSuchEnd = no_such_end

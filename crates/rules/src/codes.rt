@@ -1,5 +1,6 @@
-// The numbers of calls and answers, by meaning: a name for each place that answers one, as specs/Codes has them. TPESVCFAIL and TPESVCERR have none
-// here: they come of a sum (replies::outcome_code of monitor).
+// The numbers of answers that are no refusals of a call, and of events, flags and returns, by meaning: a name for each place that answers one, as
+// specs/Codes has them. Those of a call's refusals are in `Refusal`. TPESVCFAIL and TPESVCERR have none: they come of a sum (replies::outcome_code of
+// monitor).
 
 // ---- TX (document 002)
 pub const TX_OK: i64 = 0;
@@ -18,11 +19,6 @@ pub const TX_HAZARD: i64 = -4;
 // heuristically committed
 pub const TX_COMMITTED: i64 = -9;
 
-pub const TX_PROTOCOL_ERROR: i64 = -5;
-
-pub const TX_ERROR: i64 = -6;
-
-pub const TX_EINVAL: i64 = -8;
 // added to the code of a transaction that is over, where no new one could begin
 pub const TX_NO_BEGIN: i64 = -100;
 
@@ -34,7 +30,7 @@ pub const FILE_RUN: i64 = 0;
 // ---- a request was written in OSI TP's primitives, or read from them
 pub const SEQUENCE_DONE: i64 = 0;
 
-// ---- refusals of a list, a file, a sequence, a record or a call
+// ---- refusals of a file or a sequence
 pub const TOO_LITTLE_ROOM: i64 = 16;
 
 pub const CUT_SHORT: i64 = 17;
@@ -43,42 +39,11 @@ pub const MALFORMED: i64 = 18;
 
 pub const UNSOUND: i64 = 19;
 
-pub const UNKNOWN_KIND: i64 = 20;
-
-pub const UNKNOWN_PARTY: i64 = 21;
-
-// ---- refusals of the XATMI kinds
+// of a request that has no sequence
 pub const BAD_ARGUMENT: i64 = 22;
-// not now: the caller's or the end's state forbids it
-pub const NOT_ALLOWED_NOW: i64 = 23;
 
-pub const NO_SUCH_END: i64 = 24;
-
-pub const NOT_OFFERED: i64 = 25;
-
-pub const NO_ROOM_LEFT: i64 = 26;
-
-pub const IN_TRANSACTION: i64 = 27;
-
-pub const TIMED_OUT: i64 = 28;
-
-pub const NOTHING_WAITING: i64 = 32;
-
-// ---- refusal of a reader of OSI TP's primitives
+// of a reader of OSI TP's primitives
 pub const NO_SUCH_SEQUENCE: i64 = 33;
-
-// ---- refusal of a resource manager's report
-pub const BAD_REPORT: i64 = 34;
-
-// ---- refusal of a party without the right
-pub const NOT_PERMITTED: i64 = 35;
-
-// ---- refusals where nothing is there yet, by the two kinds that answer 36, and where four are unread
-pub const NO_REPLY_YET: i64 = 36;
-
-pub const NOTHING_UNREAD: i64 = 36;
-
-pub const UNREAD_FULL: i64 = 37;
 
 // ---- accepted by the XATMI kinds
 pub const TP_ACCEPTED: i64 = 0;

@@ -1,4 +1,4 @@
-// Why a call is refused, once its kind and its party are known.
+// Why a call or a list of calls is refused.
 ghost use Rattle.std.specs.Prelude.{◌≡◌, true};
 ghost use Rattle.rules.specs.Codes.{code_of};
 ghost use Rattle.rules.specs.Refusals.{is_refusal};
@@ -6,11 +6,17 @@ ghost use Rattle.rules.specs.Refusals.{is_refusal};
 // A reason has a name for each place that answers it; `code` gives its number.
 #[derive(Clone, Copy, PartialEq, Eq)]
 pub enum Refusal {
+    // of a list: its answer places are too few; it ends inside a call
+    TooLittleRoom,
+    CutShort,
+    // before the clock moves; of a list too
+    Unsound,
+    UnknownKind,
+    UnknownParty,
     // the TX calls: TX_PROTOCOL_ERROR, TX_ERROR, TX_EINVAL
     TxProtocolError,
     TxError,
     TxEinval,
-    UnknownKind,
     BadArgument,
     // the caller's or the end's state forbids it
     NotAllowedNow,
@@ -41,10 +47,14 @@ impl Refusal {
         ensures refuses { is_refusal result ≡ true }
     {
         match self {
+            Refusal::TooLittleRoom => 16,
+            Refusal::CutShort => 17,
+            Refusal::Unsound => 19,
+            Refusal::UnknownKind => 20,
+            Refusal::UnknownParty => 21,
             Refusal::TxProtocolError => -5,
             Refusal::TxError => -6,
             Refusal::TxEinval => -8,
-            Refusal::UnknownKind => 20,
             Refusal::BadArgument => 22,
             Refusal::NotAllowedNow => 23,
             Refusal::NoSuchEnd => 24,

@@ -1,5 +1,5 @@
 // The reader: which request a slice of bytes says.
-ghost use Rattle.std.specs.Prelude.{◌≡◌, IfOk, IfErr};
+ghost use Rattle.std.specs.Prelude.{◌≡◌};
 ghost use Rattle.wire.specs.Sequences.{meaning_of};
 ghost use Rattle.wire.specs.Entries.{read_of};
 ghost use Rattle.wire.specs.Answers.{read_code, read_told};

@@ -45,7 +45,7 @@ returns-then-over c =
     let talks : (x r : Ruled) → asks (pick hears x r) ≡ r = λ x r. timely _ ∙ pick_false _ _ _ (sym c.hears_disconnect-disconnected.ensures ∙ c.if-disconnected.false) in
     let returned : Bool = let a = c.args in hears_return a.p.index a.l in
     let over : returned ≡ true = sym c.hears_return-over.ensures ∙ c.if-over.true in (
-      c.tell_return.ensures ∙ sym (talks _ _ ∙ pick_true _ _ _ over)
+    c.tell_return.ensures ∙ sym (talks _ _ ∙ pick_true _ _ _ over)
     )
 
 pub returns-then-sender : goal.returns-then-sender
@@ -94,9 +94,9 @@ returns c =
     let going : (x y r : Ruled) → asks (pick hears x (pick returned y r)) ≡ r = λ x y r. talks _ _ ∙ pick_false _ _ _ (sym c.hears_return-over.ensures ∙ c.if-over.false) in
     let listens : let a = c.args in not (is_sender a.p.index a.l) ≡ true = ap not (sym c.is_sender-sender.ensures ∙ c.if-sender.false) in
     let unread : ltb 0 c.args.l.filled ≡ true = lt-ltb 0 c.args.l.filled (omega (arith, c.if-l-eq0.false)) in (
-      c.receive.ensures
-          ∙ sym
-          (going _ _ _
-          ∙ pick_true _ _ _ listens
-          ∙ pick_true _ _ _ unread)
+    c.receive.ensures
+    ∙ sym
+    (going _ _ _
+    ∙ pick_true _ _ _ listens
+    ∙ pick_true _ _ _ unread)
     )

@@ -16,7 +16,7 @@ pub returns-then-b-gt1 : goal.returns-then-b-gt1
 unfolding send_on
 returns-then-b-gt1 c =
     let known : let a = c.args in any_end a.p.index a.l ≡ true = sym c.is_any_end-known.ensures ∙ c.if-not-known.false in (
-      refused refl (pick_true _ _ _ known ∙ pick_false _ _ _ (lt-leb _ _ c.if-b-gt1.true))
+    refused refl (pick_true _ _ _ known ∙ pick_false _ _ _ (lt-leb _ _ c.if-b-gt1.true))
     )
 
 pub returns-then-late : goal.returns-then-late
@@ -59,7 +59,7 @@ returns-then-failed c =
     let talks : (x r : Ruled) → asks (pick hears x r) ≡ r = λ x r. timely _ ∙ pick_false _ _ _ (sym c.hears_disconnect-disconnected.ensures ∙ c.if-disconnected.false) in
     let fails : Bool = let a = c.args in hears_return a.p.index a.l && not (eqb a.l.outcome tpev_svc_succ) in
     let failed : fails ≡ true = rw c.hears_return-over.ensures at c.if-failed.true in (
-      c.tell_return.ensures ∙ sym (talks _ _ ∙ pick_true _ _ _ failed)
+    c.tell_return.ensures ∙ sym (talks _ _ ∙ pick_true _ _ _ failed)
     )
 
 pub returns-then-not-free : goal.returns-then-not-free

@@ -21,5 +21,5 @@ returns-then-d-eq0 c =
 
 pub returns : goal.returns
 returns c = (
-  c.leave_link.ensures ∙ serving _ _ _ c.served_at-d.ensures c.if-d-eq0.false
-)
+    c.leave_link.ensures ∙ serving _ _ _ c.served_at-d.ensures c.if-d-eq0.false
+    )

@@ -32,7 +32,7 @@ loop-i-preserved c =
       turn_answers a.n v.i t a.calls.now m m₀ s e v.out a.out.now out' room w v.invariant.1,
       turn_past a.n v.i t a.calls.now m m₀ s e v.out a.out.now out' room w v.invariant.2,
       turn_ran a.n v.i t a.calls.now m m₀ s e v.invariant.3,
-      d.ensures.1
+      d.ensures.1,
     )
 
 pub returns : goal.returns

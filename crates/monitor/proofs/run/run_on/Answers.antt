@@ -5,8 +5,10 @@ use Rattle.monitor.proofs.run.run_on.Goals as goal
 
 pub run-requires : goal.run-requires
 run-requires c = (
-  sym c.is_sound_in.ensures ∙ c.if-not-is_sound_in.false, omega arith,
-  omega (arith, c.if-answers-calls.false))
+  sym c.is_sound_in.ensures ∙ c.if-not-is_sound_in.false,
+  omega arith,
+  omega (arith, c.if-answers-calls.false),
+)
 
 pub returns : goal.returns
 returns c =

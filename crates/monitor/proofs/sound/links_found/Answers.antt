@@ -46,7 +46,8 @@ loop-i-preserved c =
     ] in (
       v.invariant.0 ∙ link_passed _ _ _ _ _ k passed,
       c.if-works.array_long,
-      λ p h. sym (found_next p (d p) _ _ _ _ _ k (next p)) ∙ v.invariant.2 p h)
+      λ p h. sym (found_next p (d p) _ _ _ _ _ k (next p)) ∙ v.invariant.2 p h,
+    )
 
 pub returns : goal.returns
 returns c =

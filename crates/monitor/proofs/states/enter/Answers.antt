@@ -7,6 +7,6 @@ pub returns : goal.returns
 unfolding entered
 returns c =
     let a = c.args in (
-      c.put_party.ensures
-          ∙ ap (with_party (view a.s.now) a.p.index) (c.in_state-k.ensures ∙ ap (λ (q : Party). in_state q (state_number a.state)) c.party_at-q.ensures)
+    c.put_party.ensures
+    ∙ ap (with_party (view a.s.now) a.p.index) (c.in_state-k.ensures ∙ ap (λ (q : Party). in_state q (state_number a.state)) c.party_at-q.ensures)
     )

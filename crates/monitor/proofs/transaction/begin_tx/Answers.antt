@@ -18,7 +18,7 @@ returns c =
     let now = c.clock-now in
     let q = c.party_at-q in
     let d = c.deadline-d in (
-      c.put_party.ensures
-          ∙ ap (λ (k : Monitor). with_party k a.p.index (owning q.result (last.result + 1) d.result)) c.set_last_tx.ensures
-          ∙ begins m a.p.index last.result now.result d.result q.result last.ensures now.ensures q.ensures d.ensures
+    c.put_party.ensures
+    ∙ ap (λ (k : Monitor). with_party k a.p.index (owning q.result (last.result + 1) d.result)) c.set_last_tx.ensures
+    ∙ begins m a.p.index last.result now.result d.result q.result last.ensures now.ensures q.ensures d.ensures
     )

@@ -16,4 +16,6 @@ returns c =
     let q = c.party_at-q in (
       c.end_links.ensures.0
           ∙ ap (λ (k : Monitor). rebuilt k (collect (end_of q.result.owned) (live k))) c.put_party.ensures
-          ∙ ap (λ (x : Party). rebuilt (with_party m a.p.index (owning_none x)) (collect (end_of x.owned) (live m))) q.ensures, c.end_links.ensures.1)
+          ∙ ap (λ (x : Party). rebuilt (with_party m a.p.index (owning_none x)) (collect (end_of x.owned) (live m))) q.ensures,
+      c.end_links.ensures.1,
+    )

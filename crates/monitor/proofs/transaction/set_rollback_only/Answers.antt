@@ -29,8 +29,8 @@ unfolding rollback_only_in
 returns c =
     let m = view c.args.s.now in
     let o = c.in-Some.o in (
-      c.put_party.ensures
-          ∙ ap (λ (q : Party). with_party m o (rollback_only q)) c.party_at-q.ensures
-          ∙ ap (λ (k : ℕ). with_party m k (rollback_only (party m k))) (found_some _ _ c.owner.ensures c.in-Some.is).0
-          ∙ ap (with_parties m) (sym (pick_false _ _ _ (ne_eqb _ _ c.if-t-eq0.false)))
+    c.put_party.ensures
+    ∙ ap (λ (q : Party). with_party m o (rollback_only q)) c.party_at-q.ensures
+    ∙ ap (λ (k : ℕ). with_party m k (rollback_only (party m k))) (found_some _ _ c.owner.ensures c.in-Some.is).0
+    ∙ ap (with_parties m) (sym (pick_false _ _ _ (ne_eqb _ _ c.if-t-eq0.false)))
     )

@@ -29,9 +29,9 @@ returns-then-start-left c =
     let z : to_z w64 (of_z w64 a.code) ≡ a.code = search rules in
     let left = sym (ap (λ (t : ℕ). a.start && ltb t 60000) c.last_tx-left.ensures) ∙ c.if-start-left.true in
     let chained = ap (λ (s : State). eqb (state_number s) 4) c.in-S4.is in (
-      code_told _ c.coded.ensures
-          ∙ ap₂ ruled (n ∙ ap₂ (λ (m : Monitor) (s : State). entered m a.p.index (state_number s)) c.begin_tx.ensures c.in-S4.is) z
-          ∙ sym (pick_true _ _ _ chained ∙ pick_true _ _ _ left)
+    code_told _ c.coded.ensures
+    ∙ ap₂ ruled (n ∙ ap₂ (λ (m : Monitor) (s : State). entered m a.p.index (state_number s)) c.begin_tx.ensures c.in-S4.is) z
+    ∙ sym (pick_true _ _ _ chained ∙ pick_true _ _ _ left)
     )
 
 pub returns-else-start-left : goal.returns-else-start-left
@@ -44,9 +44,9 @@ returns-else-start-left c =
     let r : to_z w64 (of_z w64 b.result) ≡ b.result = search rules in
     let spent = sym (ap (λ (t : ℕ). a.start && ltb t 60000) c.last_tx-left.ensures) ∙ c.if-start-left.false in
     let chained = ap (λ (s : State). eqb (state_number s) 4) c.in-S4.is in (
-      code_told _ c.coded-else-start-left.ensures
-          ∙ ap₂ ruled n (r ∙ b.ensures ∙ ap no_begin z)
-          ∙ sym (pick_true _ _ _ chained ∙ pick_false _ _ _ spent)
+    code_told _ c.coded-else-start-left.ensures
+    ∙ ap₂ ruled n (r ∙ b.ensures ∙ ap no_begin z)
+    ∙ sym (pick_true _ _ _ chained ∙ pick_false _ _ _ spent)
     )
 
 pub returns-in_default : goal.returns-in_default

@@ -43,7 +43,7 @@ returns c =
     let reports = c.reports_at-reports.ensures in
     let starts = c.all_can_start-start.ensures ∙ ap (λ (rs : List ℕ). all_can_start rs) reports in
     let codes = z ∙ code.ensures.0 ∙ ap₂ commit_code c.can_commit-can.ensures reports in (
-      c.go_on.ensures
-          ∙ (λ i. go_on (c.end_tx.ensures.0 i) a.p.index (e i) (starts i) (codes i))
-          ∙ owner_told _ _ _ _ e _ _ c.is_owner-own.ensures (ap not c.if-not-own.false)
+    c.go_on.ensures
+    ∙ (λ i. go_on (c.end_tx.ensures.0 i) a.p.index (e i) (starts i) (codes i))
+    ∙ owner_told _ _ _ _ e _ _ c.is_owner-own.ensures (ap not c.if-not-own.false)
     )

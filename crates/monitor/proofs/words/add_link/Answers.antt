@@ -12,6 +12,6 @@ returns c =
     let d = c.last_link-d in
     let ys = c.put_link.new.s in
     set_count_law (set ys 1 (d.result + 1)) (i.result + 1) (length-set ys 1 (d.result + 1) ∙ search rules)
-          ∙ ap (λ (k : Monitor). with_count k (i.result + 1)) (set_last_link_law ys (d.result + 1) (search rules))
-          ∙ ap (λ (k : Monitor). with_count (with_last_link k (d.result + 1)) (i.result + 1)) c.put_link.ensures
-          ∙ (λ z. with_last_link (with_contents m m.parties (set m.links (i.ensures z) a.l) (i.ensures z + 1)) (d.ensures z + 1))
+    ∙ ap (λ (k : Monitor). with_count k (i.result + 1)) (set_last_link_law ys (d.result + 1) (search rules))
+    ∙ ap (λ (k : Monitor). with_count (with_last_link k (d.result + 1)) (i.result + 1)) c.put_link.ensures
+    ∙ (λ z. with_last_link (with_contents m m.parties (set m.links (i.ensures z) a.l) (i.ensures z + 1)) (d.ensures z + 1))
