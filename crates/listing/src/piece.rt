@@ -8,7 +8,8 @@ use monitor::{Store, run_piece};
 use rules::codes;
 
 // What a piece gives: the record after its calls, how many of its bytes those took, how many bytes of text they made, and the code that ended it:
-// 0 where it may go on, 16 where the text's buffer is too short, else the refusal.
+// 0 where it may go on, 16 where the text's buffer is too short, else the refusal. It is the library's number for a drill file,
+// and stands beside values that hold either way.
 #[derive(Clone, Copy)]
 pub struct Listed {
     pub store: Store,

@@ -15,7 +15,6 @@ use Rattle.rules.specs.declared.Monitor.{Monitor}
 use Rattle.rules.specs.Lists.{first_of, collect}
 use Rattle.rules.specs.Record.{fresh_link, blanks, live, with_contents, with_links, with_count, rebuilt, replaced}
 use Rattle.rules.proofs.Logic.{pick_true, pick_false, test}
-use Rattle.monitor.specs.Words.{words}
 use Rattle.monitor.specs.View.{link_in, blanked, view, keeps_before}
 use Rattle.monitor.proofs.Lists.{first_within, collect_more}
 use Rattle.monitor.proofs.Laws.{links_long, live_long}

@@ -1,7 +1,6 @@
 // The drill file: calls as numbers in groups of seven bits, six to a call; reading one, running a file, writing one.
 ghost use Rattle.std.specs.Prelude.{◌≡◌, true};
 ghost use Rattle.rules.specs.Sound.{sound};
-ghost use Rattle.monitor.specs.Words.{words};
 ghost use Rattle.monitor.specs.View.{view};
 ghost use Rattle.monitor.specs.declared.file.WriteError.TheVariants.{NoRoom};
 ghost use Rattle.monitor.specs.File.{read_call, found, passed, piece_run, piece_of, file_of, file_calls, file_written, file_answer, file_buffer};
@@ -48,7 +47,7 @@ pub struct Passed {
     pub used: usize,
 }
 
-// The same, with the record after its calls.
+// The same, with the record after its calls. The code stands beside values, since the calls before a bad number were carried out.
 #[derive(Clone, Copy)]
 pub struct FileRan {
     pub store: Store,

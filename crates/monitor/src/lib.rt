@@ -37,7 +37,7 @@ pub use sound::is_sound;
 pub use steps::step;
 pub use words::{Store, WORDS};
 
-// What a rule tells, beside the record.
+// What a rule tells, beside the record. The code is a number, since some stand beside values, and one is made by a sum.
 #[derive(Clone, Copy)]
 pub struct Told {
     pub code: i64,
@@ -54,7 +54,7 @@ pub struct Stepped {
     pub answer: Answer,
 }
 
-// What a list of calls gives, beside its answers: the record after it, and its code.
+// What a list of calls gives, beside its answers: the record after it, and its code, a number as in C's entry, so that one equation speaks of both.
 #[derive(Clone, Copy)]
 pub struct Ran {
     pub store: Store,

@@ -10,7 +10,8 @@ ghost use Rattle.monitor.specs.View.{view, first_place, place_among, tests_link,
 use super::words::{WORDS, count};
 use rules::Monitor;
 
-// The first of the places from one up to another that passes the test.
+// The first of the places from one up to another that passes the test. By hand: with `find` the proof did not close, since what a test that is a
+// parameter was asked at each turn has no name there.
 #[inline]
 fn first_place<F: Fn(usize) -> bool>(from: usize, to: usize, test: F) -> Option<usize>
     requires { (i : ℕ) → i < to → F.pre test i }

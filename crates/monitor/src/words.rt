@@ -1,7 +1,7 @@
 // The record's words: lengths and places, readers and stores. A number of 64 bits stands in two words, the low half first.
 ghost use Rattle.std.specs.Prelude.{◌≡◌, ◌+◌, ◌*◌, ◌<◌, ◌≤◌};
 ghost use Rattle.rules.specs.Record.{fresh_monitor, party, with_clock, with_last_tx, with_party, with_count, replaced, added};
-ghost use Rattle.monitor.specs.Words.{words, low, high};
+ghost use Rattle.monitor.specs.Words.{low, high};
 ghost use Rattle.monitor.specs.View.{view, link_in};
 
 use rules::{Link, Monitor, Party};

@@ -19,6 +19,7 @@ pub fn decode(input: &[u8], place: usize) -> Result<(u32, usize), ReadError>
     if input.len() <= place {
         return Err(ReadError::CutShort);
     }
+    // Widened by `as`, here and below: a `From` is a call, whose result each goal would first have to name.
     let first = input[place] as u32;
     if first < 128 {
         return Ok((first, place + 1));

@@ -36,7 +36,8 @@ pub struct Party {
     pub mayadvertise: u64,
 }
 
-// A request or a conversation between its originator and the party that serves it.
+// A request or a conversation between its originator and the party that serves it. Choices are numbers, and 0 stands for none, as in a party: any word that
+// a host lends must be one that can be refused.
 #[derive(Clone, Copy, PartialEq, Eq, Default)]
 pub struct Link {
     pub number: u32,
@@ -63,7 +64,7 @@ pub struct Link {
     pub granting: u32,
     // 0 no, 1 disconnected, 2 its server was notified (document 01: cut, told)
     pub disconnected: u32,
-    // tokens sent and not yet received, the oldest first; places past the last are 0
+    // tokens sent and not yet received, the oldest first; places past the last are 0 (memory is fixed, so an array with a count)
     pub unread: [u32; 4],
     // how many are unread
     pub filled: u32,
@@ -76,12 +77,13 @@ pub struct Monitor {
     pub lastlink: u32,
     pub lasttx: u32,
     pub parties: [Party; 16],
-    // the links there are, in rising number; places past the last are fresh
+    // the links there are, in rising number; places past the last are fresh (memory is fixed, so an array with a count)
     pub links: [Link; 32],
     // how many links there are
     pub count: usize,
 }
 
+// C's layout, here and in the answer, and C's numbers.
 #[repr(C)]
 #[derive(Clone, Copy)]
 pub struct Call {

@@ -63,6 +63,7 @@ pub fn wire_read(input: &[u8]) -> Result<Request, ReadError>
     // Eight numbers are no request's, whatever follows.
     let mut numbers = ArrayVec::<u32, 8>::new();
     let mut at = 0;
+    // A while, since the next place is what `decode` tells: there is no iterator of numbers.
     while at < input.len() {
         let (value, next) = number::decode(input, at)?;
         let _ = numbers.try_push(value);

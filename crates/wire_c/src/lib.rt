@@ -1,5 +1,5 @@
-// The wire side of a request as a host links it: its entries under their names in C, each the library's with the library's contract. What one tells is a
-// struct of C's, with a number in the place of an error.
+// The wire side of a request as a host links it: its entries under their names in C, each the library's, told in a
+// struct of C's with a number in the place of an error. The contracts are the library's, said of that struct.
 #![tactic(auto)]
 
 ghost use Rattle.std.specs.Prelude.{◌≡◌};
