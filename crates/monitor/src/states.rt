@@ -1,6 +1,8 @@
 // The TX state table: nine calls by five states.
-ghost use Rattle.std.specs.Prelude.{◌≡◌, ◌-◌, ◌<◌, ◌≤◌};
-ghost use Rattle.rules.specs.States.{state_of, next_of, in_state, entered};
+ghost use Rattle.std.specs.Prelude.{◌≡◌, ◌-◌, ◌<◌, ◌≤◌, true, false, MatchResult};
+ghost use Rattle.rules.specs.Codes.{code_of, tx_protocol_error};
+ghost use Rattle.rules.specs.States.{state_of, is_blank, next_of, in_state, entered};
+ghost use Rattle.rules.specs.Tx.{next_state};
 ghost use Rattle.monitor.specs.States.{state_number, chained_of, next_number, call_number};
 ghost use Rattle.monitor.specs.View.{view};
 
@@ -8,7 +10,7 @@ use self::State::{S0, S1, S2, S3, S4};
 use super::party::PartyNumber;
 use super::transaction::tx_of;
 use super::words::{WORDS, party_at, put_party};
-use rules::Party;
+use rules::{Party, Refusal};
 
 // A party's state, by TX's names.
 #[derive(Clone, Copy, Debug, PartialEq, Eq)]
@@ -88,6 +90,7 @@ static NEXT: [[Option<State>; 5]; 9] = [
     [None, Some(S1), Some(S2), Some(S3), Some(S4)],
 ];
 
+#[tactic(auto, unfolding(rules::specs::States::state_of, rules::specs::Choice::pick))]
 pub(crate) fn state_of(s: &[u32; WORDS], p: PartyNumber) -> State
     requires { (view s.now).count ≤ 32 }
     ensures { state_number result ≡ state_of (view s.now) p.index }
@@ -96,8 +99,7 @@ pub(crate) fn state_of(s: &[u32; WORDS], p: PartyNumber) -> State
     if q.opened != 1 {
         return S0;
     }
-    let t = tx_of(s, p);
-    match (t == 0, q.control == 1) {
+    match (tx_of(s, p) == 0, q.control == 1) {
         (true, false) => S1,
         (true, true) => S2,
         (false, false) => S3,
@@ -105,15 +107,26 @@ pub(crate) fn state_of(s: &[u32; WORDS], p: PartyNumber) -> State
     }
 }
 
-// The next state of party p's call.
-pub(crate) fn state_after(s: &[u32; WORDS], p: PartyNumber, call: TxCall) -> Option<State>
+// The next state of party p's call, if the table has one.
+fn state_after(s: &[u32; WORDS], p: PartyNumber, call: TxCall) -> Option<State>
     requires { (view s.now).count ≤ 32 }
     ensures { next_number result ≡ next_of (call_number call) (state_of (view s.now) p.index) }
 {
     NEXT[call.row()][state_of(s, p).number()]
 }
 
+// The same, a blank refused.
+pub(crate) fn next_state(s: &[u32; WORDS], p: PartyNumber, call: TxCall) -> Result<State, Refusal>
+    requires { (view s.now).count ≤ 32 }
+    ensures { MatchResult result
+        (λ next. (state_number next ≡ next_state (view s.now) p.index (call_number call)) × (is_blank (next_state (view s.now) p.index (call_number call)) ≡ false))
+        (λ why. (code_of why ≡ tx_protocol_error) × (is_blank (next_state (view s.now) p.index (call_number call)) ≡ true)) }
+{
+    state_after(s, p, call).ok_or(Refusal::TxProtocolError)
+}
+
 // The party, with what the state says of its fields.
+#[tactic(auto, unfolding(rules::specs::States::in_state, rules::specs::Choice::pick))]
 pub(crate) fn in_state(q: Party, s: State) -> Party
     ensures { result ≡ in_state q (state_number s) }
 {
@@ -137,10 +150,10 @@ pub(crate) fn in_state(q: Party, s: State) -> Party
 }
 
 // Party p enters a state.
+#[tactic(auto, unfolding(rules::specs::States::entered))]
 pub(crate) fn enter(s: &mut [u32; WORDS], p: PartyNumber, state: State)
     ensures { view s.new ≡ entered (view s.old) p.index (state_number state) }
 {
-    let q = party_at(s, p.index);
-    let k = in_state(q, state);
-    put_party(s, p.index, k);
+    let q = in_state(party_at(s, p.index), state);
+    put_party(s, p.index, q);
 }
