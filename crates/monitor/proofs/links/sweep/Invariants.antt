@@ -1,4 +1,4 @@
-use Rattle.monitor.proofs.Usual.{◌≡◌, ◌≤◌, List, Link, view}
+use Rattle.monitor.proofs.Usual.{◌≤◌, List, Link, view}
 use Rattle.monitor.specs.View.{keeps_before, leaves}
 use Rattle.monitor.proofs.Sweep.{Sweeps}
 use Rattle.monitor.proofs.links.sweep.Given as goal
