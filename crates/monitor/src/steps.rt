@@ -68,6 +68,7 @@ pub(crate) fn rule(
 }
 
 // The clock becomes the greater of its own and the call's.
+#[tactic(auto, unfolding(rules::specs::Step::later_of, rules::specs::Choice::pick))]
 pub(crate) fn advance(s: &mut [u32; WORDS], t: u32)
     ensures { view s.new ≡ advanced (view s.old) t }
 {
@@ -86,6 +87,7 @@ fn told(r: Result<Told, Refusal>) -> Told
 }
 
 // What a rule tells, with the caller's T afterwards.
+#[tactic(auto, unfolding(rules::specs::Step::answered_to))]
 pub(crate) fn tell(s: &[u32; WORDS], r: Result<Told, Refusal>, p: PartyNumber) -> Answer
     requires { (view s.now).count ≤ 32 }
     ensures { stepped result (view s.now) ≡ answered_to (ruled_by (told_of r) (view s.now)) p.index }
@@ -117,6 +119,7 @@ pub(crate) fn turn_down(why: Refusal) -> Answer
 }
 
 // A call on a sound record, which leaves a sound one.
+#[tactic(auto, using(crate::proofs::Steady::clock_sound), unfolding(rules::specs::Step::call_of, rules::specs::Step::turned_down, rules::specs::Choice::pick))]
 pub(crate) fn call_on(s: &mut [u32; WORDS], c: Call) -> Answer
     requires { sound (view s.old) ≡ true }
     ensures { (stepped result (view s.new) ≡ call_of (view s.old) c) × (sound (view s.new) ≡ true) }
@@ -133,11 +136,11 @@ pub(crate) fn call_on(s: &mut [u32; WORDS], c: Call) -> Answer
 }
 
 // One call, on whatever record is lent.
+#[tactic(auto, unfolding(rules::specs::Step::step_of, rules::specs::Step::turned_down, rules::specs::Choice::pick))]
 pub(crate) fn step_on(s: &mut [u32; WORDS], call: Call) -> Answer
     ensures { stepped result (view s.new) ≡ step_of (view s.old) call }
 {
-    let ok = is_sound_in(s);
-    if !ok {
+    if !is_sound_in(s) {
         return turn_down(Refusal::Unsound);
     }
     call_on(s, call)
