@@ -108,6 +108,7 @@ pub(crate) fn state_of(s: &[u32; WORDS], p: PartyNumber) -> State
 }
 
 // The next state of party p's call, if the table has one.
+#[tactic(auto, unfolding(rules::specs::States::next_of, rules::specs::Choice::pick))]
 fn state_after(s: &[u32; WORDS], p: PartyNumber, call: TxCall) -> Option<State>
     requires { (view s.now).count ≤ 32 }
     ensures { next_number result ≡ next_of (call_number call) (state_of (view s.now) p.index) }
