@@ -119,7 +119,7 @@ pub(crate) fn turn_down(why: Refusal) -> Answer
 }
 
 // A call on a sound record, which leaves a sound one.
-#[tactic(auto, using(crate::proofs::Steady::clock_sound), unfolding(rules::specs::Step::call_of, rules::specs::Step::turned_down, rules::specs::Choice::pick))]
+#[tactic(auto, using(crate::proofs::Steady::clock_sound, crate::proofs::Steady::rule_room), unfolding(rules::specs::Step::call_of, rules::specs::Step::turned_down, rules::specs::Choice::pick))]
 pub(crate) fn call_on(s: &mut [u32; WORDS], c: Call) -> Answer
     requires { sound (view s.old) ≡ true }
     ensures { (stepped result (view s.new) ≡ call_of (view s.old) c) × (sound (view s.new) ≡ true) }

@@ -1,12 +1,7 @@
 -- `steps::call_on` meets its contract.
 use Rattle.monitor.proofs.Usual.{ap, ◌∙◌, Stepped, sound}
-use Rattle.monitor.proofs.Steady.{call_sound, told_call, rule_room}
+use Rattle.monitor.proofs.Steady.{call_sound, told_call}
 use Rattle.monitor.proofs.steps.call_on.Goals as goal
-
-pub tell-requires : goal.tell-requires
-tell-requires c =
-    let p = c.in-Ok-try_from in
-    rule_room c.args.s.now c.args.c c.in-Ok.ensures.1 _ p.ensures p.p.known _ c.advance.ensures _ c.in-Ok.ensures.0 _ c.rule-r.ensures c.requires
 
 pub returns : goal.returns
 returns c =
