@@ -119,9 +119,9 @@ fn state_after(s: &[u32; WORDS], p: PartyNumber, call: TxCall) -> Option<State>
 // The same, a blank refused.
 pub(crate) fn next_state(s: &[u32; WORDS], p: PartyNumber, call: TxCall) -> Result<State, Refusal>
     requires { (view s.now).count ≤ 32 }
-    ensures { MatchResult result
-        (λ next. (state_number next ≡ next_state (view s.now) p.index (call_number call)) × (is_blank (next_state (view s.now) p.index (call_number call)) ≡ false))
-        (λ why. (code_of why ≡ tx_protocol_error) × (is_blank (next_state (view s.now) p.index (call_number call)) ≡ true)) }
+    ensures { let there = next_state (view s.now) p.index (call_number call) in MatchResult result
+        (λ next. (state_number next ≡ there) × (is_blank there ≡ false))
+        (λ why. (code_of why ≡ tx_protocol_error) × (is_blank there ≡ true)) }
 {
     state_after(s, p, call).ok_or(Refusal::TxProtocolError)
 }
