@@ -76,23 +76,13 @@ pub(crate) fn advance(s: &mut [u32; WORDS], t: u32)
     set_clock(s, now.max(t));
 }
 
-// What a rule tells, a refusal by its number.
-fn told(r: Result<Told, Refusal>) -> Told
-    ensures { result ≡ told_of r }
-{
-    match r {
-        Ok(told) => told,
-        Err(why) => coded(why.code()),
-    }
-}
-
-// What a rule tells, with the caller's T afterwards.
+// What a rule tells, a refusal by its number, with the caller's T afterwards.
 #[tactic(auto, unfolding(rules::specs::Step::answered_to))]
 pub(crate) fn tell(s: &[u32; WORDS], r: Result<Told, Refusal>, p: PartyNumber) -> Answer
     requires { (view s.now).count ≤ 32 }
     ensures { stepped result (view s.now) ≡ answered_to (ruled_by (told_of r) (view s.now)) p.index }
 {
-    let told = told(r);
+    let told = r.unwrap_or_else(|why| coded(why.code()));
     let t = tx_of(s, p);
     Answer {
         code: told.code,
