@@ -1,5 +1,5 @@
 -- `links::blank_from` meets its contract: the links from `from` up to i are fresh, and the rest is as at first.
-use Rattle.monitor.proofs.Usual.{◌≡◌, ap, ◌∙◌, arith, Monitor, replaced, view, links_long}
+use Rattle.monitor.proofs.Usual.{ap, ◌∙◌, arith, Monitor, replaced, view, links_long}
 use Rattle.monitor.proofs.Sweep.{blank_more}
 use Rattle.monitor.proofs.links.blank_from.Goals as goal
 
