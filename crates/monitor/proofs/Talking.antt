@@ -1,21 +1,15 @@
--- Laws of the rules on a link that is named by its number: a refusal told, a number that no link has, and a link found and changed by its place.
+-- Laws of the rules on a link that is named by its number: a refusal told, a number that no link has, and a link found by its place.
 -- Assumes nothing.
-use Rattle.std.specs.Prelude.{Option, Some, None}
-use Prim.Native.Nat.{ℕ, ◌≤◌, ◌<◌}
-use mathlib.Core.Path.{◌≡◌, refl, ap, sym, ◌∙◌}
-use mathlib.Core.List.{List}
-use mathlib.Core.Bool.{Bool, false}
-use lib.IntN.{ℤ}
+use Rattle.std.proofs.Common.{Option, Some, None, ℕ, ◌≤◌, ◌≡◌, refl, ap, sym, ◌∙◌, Bool, false, List, ℤ}
 use Rattle.rules.specs.declared.Link.{Link}
 use Rattle.rules.specs.declared.Monitor.{Monitor}
 use Rattle.rules.specs.declared.Ruled.{Ruled}
 use Rattle.rules.specs.Codes.{no_such_end}
-use Rattle.rules.specs.Record.{fresh_link, own_end, place_of, link_of, replaced, changed, ruled, ask}
+use Rattle.rules.specs.Record.{fresh_link, own_end, place_of, link_of, ruled, ask}
 use Rattle.rules.specs.Replies.{request_end}
-use Rattle.rules.specs.Conversations.{originator_end, server_end, any_end}
 use Rattle.monitor.specs.declared.Told.{Told}
 use Rattle.monitor.specs.View.{view, link_in, place_among, ruled_by, told_code}
-use Rattle.monitor.proofs.Laws.{there, nowhere, replaced_of}
+use Rattle.monitor.proofs.Laws.{there, nowhere}
 use Rattle.monitor.proofs.Search.{found_some, found_none}
 
 -- a code told beside the record as it was is what the rule refuses with
@@ -27,14 +21,6 @@ module _ (xs : List ℕ) (a : ℕ) (h : (view xs).count ≤ 32) {r : Option ℕ}
   -- without a link there is no end
   pub no_link : r ≡ None → link_of (view xs) a ≡ fresh_link
   no_link z = nowhere xs a (place_of (view xs) a) refl h (found_none _ _ e z)
-
-  pub no_originator : r ≡ None → (p : ℕ) → originator_end p (link_of (view xs) a) ≡ false
-  unfolding originator_end
-  no_originator z p = ap (originator_end p) (no_link z)
-
-  pub no_end : r ≡ None → (p : ℕ) → any_end p (link_of (view xs) a) ≡ false
-  unfolding any_end originator_end server_end
-  no_end z p = ap (any_end p) (no_link z)
 
   pub no_request_end : r ≡ None → (p : ℕ) → request_end p (link_of (view xs) a) ≡ false
   unfolding request_end own_end
@@ -50,7 +36,3 @@ module _ (xs : List ℕ) (a : ℕ) (h : (view xs).count ≤ 32) {r : Option ℕ}
   on_request_end p rest {l = l} k r o =
       let s = sym (r ∙ stands k) in
       (λ z. ask (view xs) (request_end p (s z)) no_such_end (rest (s z))) ∙ ap (λ (b : Bool). ask (view xs) b no_such_end (rest l)) (sym o)
-
--- the link at the place of the number a became k, which is l
-pub changes : (m : Monitor) (a : ℕ) {n : Monitor} {i : ℕ} {k l : Link} → n ≡ replaced m i k → i ≡ place_of m a → i < m.count → k ≡ l → n ≡ changed m a l
-changes m a {k = k} h e b g = h ∙ replaced_of m a _ k e b ∙ ap (changed m a) g
