@@ -20,26 +20,26 @@ use rules::{Link, Party, Refusal, codes};
 pub(crate) fn is_server_free(l: Link) -> bool
     ensures { result ≡ is_server_free l }
 {
-    (l.sender == 1) & (l.granting == 0)
+    l.sender == 1 && l.granting == 0
 }
 
+#[tactic(auto, unfolding(rules::specs::Return::plain_outcome, rules::specs::Choice::pick))]
 pub(crate) fn plain_outcome(a: u32) -> u32
     ensures { result ≡ plain_outcome a }
 {
     if a == codes::TPSUCCESS {
-        return codes::TPEV_SVCSUCC;
+        codes::TPEV_SVCSUCC
+    } else {
+        codes::TPEV_SVCFAIL
     }
-    codes::TPEV_SVCFAIL
 }
 
+#[tactic(auto, unfolding(rules::specs::Return::outcome_of, rules::specs::Choice::pick))]
 pub(crate) fn outcome_of(s: &[u32; WORDS], p: PartyNumber, a: u32, c: u32, l: Link) -> u32
     requires { (view s.now).count ≤ 32 }
     ensures { result ≡ outcome_of (view s.now) p.index a c l }
 {
-    let owned = owned_at(s, p.index);
-    let ends = has_own_end(s, p);
-    let open = ends | !(owned == 0);
-    if open {
+    if has_own_end(s, p) || owned_at(s, p.index) != 0 {
         return codes::TPEV_SVCERR;
     }
     if l.kind != 1 {
@@ -48,65 +48,57 @@ pub(crate) fn outcome_of(s: &[u32; WORDS], p: PartyNumber, a: u32, c: u32, l: Li
     if l.disconnected != 0 {
         return codes::TPEV_SVCERR;
     }
-    let free = is_server_free(l);
-    if free {
+    if is_server_free(l) {
         return plain_outcome(a);
     }
-    let failing = (a == codes::TPFAIL) & (c == 0);
-    if failing {
+    if a == codes::TPFAIL && c == 0 {
         return codes::TPEV_SVCFAIL;
     }
     codes::TPEV_SVCERR
 }
 
 // The served link, its unread dropped or kept.
+#[tactic(auto, unfolding(rules::specs::Return::unread_after, rules::specs::Choice::pick))]
 pub(crate) fn unread_after(o: u32, l: Link) -> Link
     ensures { result ≡ unread_after o l }
 {
-    let free = is_server_free(l);
-    let drops = (o == codes::TPEV_SVCERR) | !free;
-    if drops {
-        return drop_unread(l);
+    if o == codes::TPEV_SVCERR || !is_server_free(l) {
+        drop_unread(l)
+    } else {
+        l
     }
-    l
 }
 
 // The transactions of party p's own conversations become rollback-only; the first of its own links stands at the place `from`.
+#[tactic(auto, using(crate::proofs::Closing::none_marked, crate::proofs::Laws::next_live, crate::proofs::Laws::end_live), unfolding(rules::specs::Return::rollback_only_by, rules::specs::Choice::pick))]
 pub(crate) fn mark_own(s: &mut [u32; WORDS], p: PartyNumber, from: usize)
     requires { ((view s.old).count ≤ 32) × (from ≡ first_of (own_end p.index) (live (view s.old))) }
     ensures { view s.new ≡ with_parties (view s.old) (rollback_only_by p.index (live (view s.old)) (view s.old).parties) }
 {
     for i in from..count(s) {
         let l = link_at(s, i);
-        let own = is_originator_end(p, l);
-        if !own {
-            continue;
+        if is_originator_end(p, l) {
+            set_rollback_only(s, l.tx);
         }
-        set_rollback_only(s, l.tx);
     }
 }
 
 // What is left of a link as party p's own close.
+#[tactic(auto, unfolding(rules::specs::Return::close_end, rules::specs::Choice::pick))]
 pub(crate) fn left_closed(p: PartyNumber, l: Link) -> Option<Link>
     ensures { option_to_list result ≡ close_end p.index l }
 {
-    let own = is_own_end(p, l);
-    if !own {
+    if !is_own_end(p, l) {
         return Some(l);
     }
     if l.kind == 1 {
-        if l.state == 1 {
-            return Some(disconnect_link(l));
-        }
-        return None;
+        return (l.state == 1).then_some(disconnect_link(l));
     }
-    if l.state == 2 {
-        return None;
-    }
-    Some(close_end(l))
+    (l.state != 2).then_some(close_end(l))
 }
 
 // Party p's own links close.
+#[tactic(auto, using(crate::proofs::Search::link_or_past, crate::proofs::Sweep::first_inside, crate::proofs::Sweep::kept_before, crate::proofs::Laws::count_kept, crate::proofs::Closing::stays), unfolding(rules::specs::Return::close_own))]
 pub(crate) fn close_own(s: &mut [u32; WORDS], p: PartyNumber)
     requires { (view s.old).count ≤ 32 }
     ensures { (view s.new ≡ close_own (view s.old) p.index) × ((view s.new).count ≤ 32) }
@@ -118,70 +110,72 @@ pub(crate) fn close_own(s: &mut [u32; WORDS], p: PartyNumber)
 }
 
 // Its own transaction, if any, ends without a new one.
+#[tactic(auto, unfolding(rules::specs::Return::end_own, rules::specs::Choice::pick))]
 pub(crate) fn end_own(s: &mut [u32; WORDS], p: PartyNumber)
     requires { (view s.old).count ≤ 32 }
     ensures { (view s.new ≡ end_own (view s.old) p.index) × ((view s.new).count ≤ 32) }
 {
     let t = owned_at(s, p.index);
-    if t == 0 {
-        return;
+    if t != 0 {
+        let from = first_of_tx(s, t);
+        end_tx(s, p, from);
     }
-    let from = first_of_tx(s, t);
-    end_tx(s, p, from);
 }
 
+#[tactic(auto, unfolding(rules::specs::Return::rollback_only_served, rules::specs::Choice::pick))]
 pub(crate) fn set_served_rollback_only(s: &mut [u32; WORDS], o: u32, t: u32)
     ensures { view s.new ≡ rollback_only_served o t (view s.old) }
 {
-    if o == codes::TPEV_SVCSUCC {
-        return;
+    if o != codes::TPEV_SVCSUCC {
+        set_rollback_only(s, t);
     }
-    set_rollback_only(s, t);
 }
 
+#[tactic(auto, unfolding(rules::specs::Return::serves_none))]
 pub(crate) fn serve_none(s: &mut [u32; WORDS], p: PartyNumber)
     ensures { view s.new ≡ serves_none (view s.old) p.index }
 {
-    let mut q = party_at(s, p.index);
-    q.served = 0;
-    put_party(s, p.index, q);
+    let q = party_at(s, p.index);
+    put_party(s, p.index, Party { served: 0, ..q });
 }
 
+#[tactic(auto, unfolding(rules::specs::Return::ending_of, rules::specs::Choice::pick))]
 pub(crate) fn ending_of(o: u32, c: u32) -> u32
     ensures { result ≡ ending_of o c }
 {
-    if o == codes::TPEV_SVCERR {
-        return 0;
-    }
-    c
+    if o == codes::TPEV_SVCERR { 0 } else { c }
 }
 
 // The link d is returned, or goes if the originator's end is closed.
+#[tactic(auto, unfolding(rules::specs::Return::hand_back, rules::specs::Record::link_of, rules::specs::Record::changed, rules::specs::Choice::pick))]
 pub(crate) fn hand_back(s: &mut [u32; WORDS], d: u32, o: u32, e: u32)
     requires { (view s.old).count ≤ 32 }
     ensures { view s.new ≡ hand_back (view s.old) d o e }
 {
     let i = place_of(s, d);
-    let mut l = live_at(s, i);
+    let l = live_at(s, i);
     if l.attached == 1 {
-        l.state = 2;
-        l.outcome = o;
-        l.ending = e;
-        change_at(s, i, l);
-        return;
+        let k = Link {
+            state: 2,
+            outcome: o,
+            ending: e,
+            ..l
+        };
+        change_at(s, i, k);
+    } else {
+        remove_at(s, i, d);
     }
-    remove_at(s, i, d);
 }
 
 // Party p, which serves the link d, leaves it with the outcome o and the ending token e.
+#[tactic(auto, unfolding(rules::specs::Return::leave, rules::specs::Return::rollback_only_served, rules::specs::Return::serves_none, rules::specs::Record::link_of, rules::specs::Record::changed, rules::specs::Choice::pick))]
 pub(crate) fn leave_link(s: &mut [u32; WORDS], p: PartyNumber, d: u32, o: u32, e: u32)
     requires { (view s.old).count ≤ 32 }
     ensures { view s.new ≡ leave (view s.old) p.index d o e }
 {
     let i = place_of(s, d);
     let l = live_at(s, i);
-    let k = unread_after(o, l);
-    change_at(s, i, k);
+    change_at(s, i, unread_after(o, l));
     close_own(s, p);
     end_own(s, p);
     set_served_rollback_only(s, o, l.tx);
@@ -190,17 +184,18 @@ pub(crate) fn leave_link(s: &mut [u32; WORDS], p: PartyNumber, d: u32, o: u32, e
 }
 
 // Party p returns with the outcome o and the token c.
+#[tactic(auto, unfolding(rules::specs::Return::return_with))]
 pub(crate) fn return_with(s: &mut [u32; WORDS], p: PartyNumber, o: u32, c: u32) -> Told
     requires { (view s.old).count ≤ 32 }
     ensures { ruled_by result (view s.new) ≡ return_with (view s.old) p.index o c }
 {
     let d = served_at(s, p.index);
-    let e = ending_of(o, c);
-    leave_link(s, p, d, o, e);
+    leave_link(s, p, d, o, ending_of(o, c));
     accept(o)
 }
 
 // Kind 20.
+#[tactic(auto, unfolding(rules::specs::Return::return_of, rules::specs::Record::link_of, rules::specs::Choice::pick))]
 pub(crate) fn tpreturn(
     s: &mut [u32; WORDS],
     p: PartyNumber,
@@ -214,8 +209,7 @@ pub(crate) fn tpreturn(
     if d == 0 {
         return Err(Refusal::NotAllowedNow);
     }
-    let good = (a == codes::TPSUCCESS) | (a == codes::TPFAIL);
-    if !good {
+    if a != codes::TPSUCCESS && a != codes::TPFAIL {
         return Err(Refusal::BadArgument);
     }
     let i = place_of(s, d);
@@ -225,6 +219,7 @@ pub(crate) fn tpreturn(
 }
 
 // What a party that died leaves behind.
+#[tactic(auto, unfolding(rules::specs::Return::died_out, rules::specs::Choice::pick))]
 pub(crate) fn die_out(s: &mut [u32; WORDS], p: PartyNumber)
     requires { (view s.old).count ≤ 32 }
     ensures { view s.new ≡ died_out (view s.old) p.index }
@@ -233,32 +228,34 @@ pub(crate) fn die_out(s: &mut [u32; WORDS], p: PartyNumber)
     if d == 0 {
         close_own(s, p);
         end_own(s, p);
-        return;
+    } else {
+        leave_link(s, p, d, codes::TPEV_SVCERR, 0);
     }
-    leave_link(s, p, d, codes::TPEV_SVCERR, 0);
 }
 
 // What the party is then, by what it was.
 pub(crate) fn after_death(q: Party) -> Party
     ensures { result ≡ after_death q }
 {
-    let mut r = Party::fresh();
-    r.mayrequest = q.mayrequest;
-    r.mayadvertise = q.mayadvertise;
-    r
+    Party {
+        mayrequest: q.mayrequest,
+        mayadvertise: q.mayadvertise,
+        ..Party::fresh()
+    }
 }
 
 // Kind 21.
+#[tactic(auto, unfolding(rules::specs::Return::terminate_of, rules::specs::Choice::pick))]
 pub(crate) fn terminate(s: &mut [u32; WORDS], p: PartyNumber) -> Told
     requires { (view s.old).count ≤ 32 }
     ensures { ruled_by result (view s.new) ≡ terminate_of (view s.old) p.index }
 {
     let before = party_at(s, p.index);
     die_out(s, p);
-    let after = after_death(before);
-    put_party(s, p.index, after);
+    put_party(s, p.index, after_death(before));
     if before.served == 0 {
-        return accept(0);
+        accept(0)
+    } else {
+        accept(codes::TPEV_SVCERR)
     }
-    accept(codes::TPEV_SVCERR)
 }
