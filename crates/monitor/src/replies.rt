@@ -17,6 +17,7 @@ use super::words::{
 };
 use rules::{Link, Refusal, codes};
 
+#[tactic(auto, unfolding(rules::specs::Replies::request_end))]
 pub(crate) fn is_request_end(p: PartyNumber, l: Link) -> bool
     ensures { result ≡ request_end p.index l }
 {
@@ -26,6 +27,7 @@ pub(crate) fn is_request_end(p: PartyNumber, l: Link) -> bool
 
 // TPESVCERR for TPEV_SVCERR (2), TPESVCFAIL for TPEV_SVCFAIL (4), TP_ACCEPTED for TPEV_SVCSUCC (8), by a sum, without a branch or a table:
 // 31, 31 - 1, 31 - 2 - 29.
+#[tactic(auto, unfolding(rules::specs::Replies::outcome_code, rules::specs::Choice::pick))]
 pub(crate) fn outcome_code(o: u32) -> i64
     requires { is_ending o ≡ true }
     ensures { result ≡ outcome_code o }
@@ -35,6 +37,7 @@ pub(crate) fn outcome_code(o: u32) -> i64
 }
 
 // The reply of link a, which stands at the place i, is taken, and the link goes; the value is v.
+#[tactic(auto, unfolding(rules::specs::Replies::fetched))]
 pub(crate) fn fetch(s: &mut [u32; WORDS], i: usize, a: u32, l: Link, v: u32) -> Told
     requires { ((view s.old).count ≤ 32) × (i ≡ place_of (view s.old) a) × (is_ending l.outcome ≡ true) }
     ensures { ruled_by result (view s.new) ≡ fetched (view s.old) a l v }
@@ -93,6 +96,7 @@ pub(crate) fn first_request_end(s: &[u32; WORDS], p: PartyNumber) -> Option<usiz
 }
 
 // Is the link at the place i an open request end of party p's, of an expired transaction?
+#[tactic(auto, unfolding(rules::specs::Replies::expired_end))]
 pub(crate) fn is_expired_end(s: &[u32; WORDS], p: PartyNumber, i: usize) -> bool
     requires { i < 32 }
     ensures { result ≡ expired_end (view s.now) p.index (link_in (view s.now) i) }
@@ -114,6 +118,7 @@ pub(crate) fn has_expired_end(s: &[u32; WORDS], p: PartyNumber, from: usize) -> 
 }
 
 // Is the link at the place i an open request end of party p's, with its reply there?
+#[tactic(auto, unfolding(rules::specs::Replies::replied_end))]
 pub(crate) fn is_replied_end(s: &[u32; WORDS], p: PartyNumber, i: usize) -> bool
     requires { i < 32 }
     ensures { result ≡ replied_end p.index (link_in (view s.now) i) }
@@ -151,6 +156,7 @@ pub(crate) fn fetch_any(s: &mut [u32; WORDS], p: PartyNumber) -> Result<Told, Re
 }
 
 // Kind 15.
+#[tactic(auto, unfolding(rules::specs::Replies::fetch_of, rules::specs::Choice::pick))]
 pub(crate) fn tpgetrply(
     s: &mut [u32; WORDS],
     p: PartyNumber,

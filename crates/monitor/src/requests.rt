@@ -40,6 +40,7 @@ pub(crate) fn connect_flags(b: u32) -> bool
 }
 
 // A new link with the flags b: its originator's end, its sender and its transaction.
+#[tactic(auto, unfolding(rules::specs::Choice::pick))]
 pub(crate) fn open_end(b: u32) -> u32
     ensures { result ≡ pick (no_reply b) 0 1 }
 {
@@ -49,6 +50,7 @@ pub(crate) fn open_end(b: u32) -> u32
     1
 }
 
+#[tactic(auto, unfolding(rules::specs::Choice::pick))]
 pub(crate) fn first_sender(b: u32) -> u32
     ensures { result ≡ pick (recv_only b) 1 0 }
 {
@@ -58,6 +60,7 @@ pub(crate) fn first_sender(b: u32) -> u32
     0
 }
 
+#[tactic(auto, unfolding(rules::specs::Requests::link_tx, rules::specs::Choice::pick))]
 pub(crate) fn link_tx(s: &[u32; WORDS], p: PartyNumber, b: u32) -> u32
     requires { (view s.now).count ≤ 32 }
     ensures { result ≡ link_tx (view s.now) p.index b }
@@ -163,6 +166,7 @@ pub(crate) fn open_link(
 }
 
 // Kind 12.
+#[tactic(auto, unfolding(rules::specs::Requests::request_of, rules::specs::Choice::pick))]
 pub(crate) fn tpacall(
     s: &mut [u32; WORDS],
     p: PartyNumber,
@@ -191,6 +195,7 @@ pub(crate) fn tpacall(
 }
 
 // Kind 13.
+#[tactic(auto, unfolding(rules::specs::Requests::connect_of, rules::specs::Choice::pick))]
 pub(crate) fn tpconnect(
     s: &mut [u32; WORDS],
     p: PartyNumber,
@@ -234,6 +239,7 @@ pub(crate) fn is_idle(s: &[u32; WORDS], p: PartyNumber) -> bool
 }
 
 // Is it a waiting link of a service that the party offers?
+#[tactic(auto, unfolding(rules::specs::Requests::fits))]
 pub(crate) fn is_for(q: Party, l: Link) -> bool
     ensures { result ≡ fits q l }
 {
@@ -242,6 +248,7 @@ pub(crate) fn is_for(q: Party, l: Link) -> bool
 }
 
 // The place of the waiting link with the lowest number.
+#[tactic(auto, unfolding(rules::specs::Requests::fits))]
 pub(crate) fn next_waiting(s: &[u32; WORDS], p: PartyNumber) -> Option<usize>
     requires { (view s.now).count ≤ 32 }
     ensures { result ≡ place_among (view s.now).count (next_waiting (view s.now) p.index) }
@@ -250,6 +257,7 @@ pub(crate) fn next_waiting(s: &[u32; WORDS], p: PartyNumber) -> Option<usize>
     first_link(s, 0, |i| is_for(q, link_at(s, i)))
 }
 
+#[tactic(auto, unfolding(rules::specs::Requests::dispatch_event, rules::specs::Choice::pick))]
 pub(crate) fn dispatch_event(l: Link) -> u32
     ensures { result ≡ dispatch_event l }
 {
@@ -263,6 +271,7 @@ pub(crate) fn dispatch_event(l: Link) -> u32
 }
 
 // The link l at the place i becomes working for party p.
+#[tactic(auto, unfolding(rules::specs::Requests::dispatched))]
 pub(crate) fn dispatch_at(s: &mut [u32; WORDS], p: PartyNumber, i: usize, l: Link) -> Told
     requires { i < 32 }
     ensures { ruled_by result (view s.new) ≡ dispatched (view s.old) p.index i l }
@@ -285,6 +294,7 @@ pub(crate) fn dispatch_at(s: &mut [u32; WORDS], p: PartyNumber, i: usize, l: Lin
 }
 
 // Kind 14.
+#[tactic(auto, unfolding(rules::specs::Requests::dispatch_of, rules::specs::Choice::pick))]
 pub(crate) fn dispatch(s: &mut [u32; WORDS], p: PartyNumber) -> Result<Told, Refusal>
     requires { (view s.old).count ≤ 32 }
     ensures { ruled_by (told_of result) (view s.new) ≡ dispatch_of (view s.old) p.index }
