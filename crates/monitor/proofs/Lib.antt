@@ -13,6 +13,7 @@ pub mod Owners
 pub mod Pieces
 pub mod Prefixes
 pub mod Put
+pub mod Replied
 pub mod Reports
 pub mod Search
 pub mod Served

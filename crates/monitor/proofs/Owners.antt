@@ -21,10 +21,6 @@ among n k = test (ltb k n)
     (λ t. subst (λ (o : Option ℕ). IfSome o (λ p. p < n)) (sym (pick_true _ _ _ t)) (ltb-true k n t))
     (λ t. subst (λ (o : Option ℕ). IfSome o (λ p. p < n)) (sym (pick_false _ _ _ t)) tt)
 
-asked-none : (b : Bool) {s : Bool} → s ≡ not b → not s ≡ b
-asked-none true e = ap not e
-asked-none false e = ap not e
-
 module _ (xs : List ℕ) (t : ℕ) {o : Option ℕ} (e : o ≡ live_owner (view xs).parties t) where
   -- it is one of the parties
   pub owner_among : IfSome o (λ p. p < 16)
@@ -32,11 +28,11 @@ module _ (xs : List ℕ) (t : ℕ) {o : Option ℕ} (e : o ≡ live_owner (view 
       (λ z. subst (λ (o : Option ℕ). IfSome o (λ p. p < 16)) (sym (pick_true _ _ _ z)) tt)
       (λ n. subst (λ (o : Option ℕ). IfSome o (λ p. p < 16)) (sym (pick_false _ _ _ n)) (among 16 (owner_of (view xs).parties t))))
 
-  pub ended_by : (none : Bool) → is_some o ≡ not none → ended (view xs) t ≡ not (eqb t 0) && none
+  pub ended_by : ended (view xs) t ≡ not (eqb t 0) && not (is_some o)
   unfolding ended
-  ended_by none q = test (eqb t 0)
+  ended_by = test (eqb t 0)
       (λ z. rw z)
-      (λ n. rw n (ap not (sym (party_there xs (owns t) (e ∙ pick_false _ _ _ n))) ∙ asked-none none q))
+      (λ n. rw n (ap not (sym (party_there xs (owns t) (e ∙ pick_false _ _ _ n)))))
 
   pub expired_by : expired (view xs) t ≡ late_at (view xs) o
   unfolding expired

@@ -21,8 +21,7 @@ use rules::{Link, Refusal, codes};
 pub(crate) fn is_request_end(p: PartyNumber, l: Link) -> bool
     ensures { result ≡ request_end p.index l }
 {
-    let own = is_own_end(p, l);
-    (l.kind == 0) & own
+    l.kind == 0 && is_own_end(p, l)
 }
 
 // TPESVCERR for TPEV_SVCERR (2), TPESVCFAIL for TPEV_SVCFAIL (4), TP_ACCEPTED for TPEV_SVCSUCC (8), by a sum, without a branch or a table:
@@ -33,7 +32,7 @@ pub(crate) fn outcome_code(o: u32) -> i64
     ensures { result ≡ outcome_code o }
 {
     let code = 31 - o / 4 - 29 * (o / 8);
-    code as i64
+    i64::from(code)
 }
 
 // The reply of link a, which stands at the place i, is taken, and the link goes; the value is v.
@@ -43,9 +42,8 @@ pub(crate) fn fetch(s: &mut [u32; WORDS], i: usize, a: u32, l: Link, v: u32) -> 
     ensures { ruled_by result (view s.new) ≡ fetched (view s.old) a l v }
 {
     remove_at(s, i, a);
-    let code = outcome_code(l.outcome);
     Told {
-        code,
+        code: outcome_code(l.outcome),
         value: v,
         event: 0,
         token: l.ending,
@@ -54,6 +52,7 @@ pub(crate) fn fetch(s: &mut [u32; WORDS], i: usize, a: u32, l: Link, v: u32) -> 
 }
 
 // The reply of link a.
+#[tactic(auto, using(crate::proofs::Laws::sound_room, crate::proofs::Laws::read_ended, crate::proofs::Talking::stands, crate::proofs::Talking::no_request_end), unfolding(rules::specs::Replies::fetch_one, rules::specs::Choice::pick))]
 pub(crate) fn fetch_one(s: &mut [u32; WORDS], p: PartyNumber, a: u32) -> Result<Told, Refusal>
     requires { sound (view s.old) ≡ true }
     ensures { ruled_by (told_of result) (view s.new) ≡ fetch_one (view s.old) p.index a }
@@ -62,12 +61,10 @@ pub(crate) fn fetch_one(s: &mut [u32; WORDS], p: PartyNumber, a: u32) -> Result<
         return Err(Refusal::NoSuchEnd);
     };
     let l = link_at(s, i);
-    let own = is_request_end(p, l);
-    if !own {
+    if !is_request_end(p, l) {
         return Err(Refusal::NoSuchEnd);
     }
-    let late = is_expired(s, l.tx);
-    if late {
+    if is_expired(s, l.tx) {
         return Err(Refusal::TimedOut);
     }
     if l.state != 2 {
@@ -77,6 +74,7 @@ pub(crate) fn fetch_one(s: &mut [u32; WORDS], p: PartyNumber, a: u32) -> Result<
 }
 
 // Is the link at the place i one?
+#[tactic(auto, unfolding(rules::specs::Replies::request_end, rules::specs::Record::own_end, rules::specs::Choice::same))]
 pub(crate) fn is_request_end_at(s: &[u32; WORDS], p: PartyNumber, i: usize) -> bool
     requires { i < 32 }
     ensures { result ≡ request_end p.index (link_in (view s.now) i) }
@@ -101,15 +99,11 @@ pub(crate) fn is_expired_end(s: &[u32; WORDS], p: PartyNumber, i: usize) -> bool
     requires { i < 32 }
     ensures { result ≡ expired_end (view s.now) p.index (link_in (view s.now) i) }
 {
-    let own = is_request_end_at(s, p, i);
-    if !own {
-        return false;
-    }
-    let t = tx_at(s, i);
-    is_expired(s, t)
+    is_request_end_at(s, p, i) && is_expired(s, tx_at(s, i))
 }
 
 // Has an open request end of party p's an expired transaction? The first of its ends stands at the place `from`.
+#[tactic(auto, using(crate::proofs::Replied::first_expired, crate::proofs::Search::link_there))]
 pub(crate) fn has_expired_end(s: &[u32; WORDS], p: PartyNumber, from: usize) -> bool
     requires { ((view s.now).count ≤ 32) × (from ≡ first_of (request_end p.index) (live (view s.now))) }
     ensures { result ≡ any_of (expired_end (view s.now) p.index) (live (view s.now)) }
@@ -123,12 +117,11 @@ pub(crate) fn is_replied_end(s: &[u32; WORDS], p: PartyNumber, i: usize) -> bool
     requires { i < 32 }
     ensures { result ≡ replied_end p.index (link_in (view s.now) i) }
 {
-    let own = is_request_end_at(s, p, i);
-    let state = state_at(s, i);
-    own & (state == 2)
+    is_request_end_at(s, p, i) & (state_at(s, i) == 2)
 }
 
 // The place of party p's returned request with the lowest number. The first of its ends stands at the place `from`.
+#[tactic(auto, using(crate::proofs::Replied::first_replied))]
 pub(crate) fn next_reply(s: &[u32; WORDS], p: PartyNumber, from: usize) -> Option<usize>
     requires { ((view s.now).count ≤ 32) × (from ≡ first_of (request_end p.index) (live (view s.now))) }
     ensures { result ≡ place_among (view s.now).count (next_reply (view s.now) p.index) }
@@ -137,6 +130,7 @@ pub(crate) fn next_reply(s: &[u32; WORDS], p: PartyNumber, from: usize) -> Optio
 }
 
 // Whichever reply is there.
+#[tactic(auto, using(crate::proofs::Laws::sound_room, crate::proofs::Laws::read_first, crate::proofs::Laws::read_live, crate::proofs::Replied::next_ended, crate::proofs::Search::none_passes, crate::proofs::Search::one_passes), unfolding(rules::specs::Replies::fetch_any, rules::specs::Choice::pick))]
 pub(crate) fn fetch_any(s: &mut [u32; WORDS], p: PartyNumber) -> Result<Told, Refusal>
     requires { sound (view s.old) ≡ true }
     ensures { ruled_by (told_of result) (view s.new) ≡ fetch_any (view s.old) p.index }
@@ -144,8 +138,7 @@ pub(crate) fn fetch_any(s: &mut [u32; WORDS], p: PartyNumber) -> Result<Told, Re
     let Some(from) = first_request_end(s, p) else {
         return Err(Refusal::NoSuchEnd);
     };
-    let late = has_expired_end(s, p, from);
-    if late {
+    if has_expired_end(s, p, from) {
         return Err(Refusal::TimedOut);
     }
     let Some(next) = next_reply(s, p, from) else {
@@ -166,29 +159,28 @@ pub(crate) fn tpgetrply(
     requires { sound (view s.old) ≡ true }
     ensures { ruled_by (told_of result) (view s.new) ≡ fetch_of (view s.old) p.index a b }
 {
-    if b > 1 {
-        return Err(Refusal::BadArgument);
+    match b {
+        0 => fetch_one(s, p, a),
+        codes::TPGETANY => fetch_any(s, p),
+        _ => Err(Refusal::BadArgument),
     }
-    if b == codes::TPGETANY {
-        return fetch_any(s, p);
-    }
-    fetch_one(s, p, a)
 }
 
 // The end of link a, which stands at the place i, closes.
+#[tactic(auto, unfolding(rules::specs::Replies::cancelled, rules::specs::Record::changed, rules::specs::Choice::pick))]
 pub(crate) fn cancel(s: &mut [u32; WORDS], i: usize, a: u32, l: Link)
     requires { ((view s.old).count ≤ 32) × (i ≡ place_of (view s.old) a) × (i < (view s.old).count) }
     ensures { view s.new ≡ cancelled (view s.old) a l }
 {
     if l.state == 2 {
         remove_at(s, i, a);
-        return;
+    } else {
+        put_link(s, i, close_end(l));
     }
-    let k = close_end(l);
-    put_link(s, i, k);
 }
 
 // Kind 16.
+#[tactic(auto, using(crate::proofs::Talking::stands, crate::proofs::Talking::no_request_end), unfolding(rules::specs::Replies::cancel_of, rules::specs::Choice::pick))]
 pub(crate) fn tpcancel(s: &mut [u32; WORDS], p: PartyNumber, a: u32) -> Result<Told, Refusal>
     requires { (view s.old).count ≤ 32 }
     ensures { ruled_by (told_of result) (view s.new) ≡ cancel_of (view s.old) p.index a }
@@ -197,8 +189,7 @@ pub(crate) fn tpcancel(s: &mut [u32; WORDS], p: PartyNumber, a: u32) -> Result<T
         return Err(Refusal::NoSuchEnd);
     };
     let l = link_at(s, i);
-    let own = is_request_end(p, l);
-    if !own {
+    if !is_request_end(p, l) {
         return Err(Refusal::NoSuchEnd);
     }
     if l.tx != 0 {

@@ -34,9 +34,7 @@ pub(crate) fn no_tran(b: u32) -> bool
 pub(crate) fn connect_flags(b: u32) -> bool
     ensures { result ≡ connect_flags b }
 {
-    (b <= 15)
-        & ((b / codes::TPNOREPLY % 2 == 0)
-            & !(b / codes::TPSENDONLY % 2 == b / codes::TPRECVONLY % 2))
+    b <= 15 && !no_reply(b) && b / codes::TPSENDONLY % 2 != b / codes::TPRECVONLY % 2
 }
 
 // A new link with the flags b: its originator's end, its sender and its transaction.
@@ -44,20 +42,14 @@ pub(crate) fn connect_flags(b: u32) -> bool
 pub(crate) fn open_end(b: u32) -> u32
     ensures { result ≡ pick (no_reply b) 0 1 }
 {
-    if b / codes::TPNOREPLY % 2 == 1 {
-        return 0;
-    }
-    1
+    if no_reply(b) { 0 } else { 1 }
 }
 
 #[tactic(auto, unfolding(rules::specs::Choice::pick))]
 pub(crate) fn first_sender(b: u32) -> u32
     ensures { result ≡ pick (recv_only b) 1 0 }
 {
-    if b / codes::TPRECVONLY % 2 == 1 {
-        return 1;
-    }
-    0
+    u32::from(b / codes::TPRECVONLY % 2 == 1)
 }
 
 #[tactic(auto, unfolding(rules::specs::Requests::link_tx, rules::specs::Choice::pick))]
@@ -65,11 +57,7 @@ pub(crate) fn link_tx(s: &[u32; WORDS], p: PartyNumber, b: u32) -> u32
     requires { (view s.now).count ≤ 32 }
     ensures { result ≡ link_tx (view s.now) p.index b }
 {
-    let none = no_tran(b);
-    if none {
-        return 0;
-    }
-    tx_of(s, p)
+    if no_tran(b) { 0 } else { tx_of(s, p) }
 }
 
 // A waiting link of party p's.
@@ -109,36 +97,29 @@ pub(crate) fn new_link(
 pub(crate) fn is_link_left(s: &[u32; WORDS]) -> bool
     ensures { result ≡ link_left (view s.now) }
 {
-    let len = count(s);
-    let last = last_link(s);
-    (len < Monitor::LINKS) & (last < Monitor::NUMBERS)
+    count(s) < Monitor::LINKS && last_link(s) < Monitor::NUMBERS
 }
 
 // The questions after the flags.
+#[tactic(auto, using(crate::proofs::Owners::owner_among, crate::proofs::Owners::ended_by, crate::proofs::Owners::expired_by, crate::proofs::Opening::room_left), unfolding(rules::specs::Requests::ask_link, rules::specs::Services::may_request, rules::specs::Choice::pick))]
 pub(crate) fn ask_link(s: &[u32; WORDS], p: PartyNumber, t: u32, a: u32) -> Result<(), Refusal>
     ensures answer { (rest : Ruled) → ask_link (view s.now) p.index t a rest ≡ asked result (view s.now) rest }
     ensures room { IfOk result (λ _. ((view s.now).count < 32) × ((view s.now).lastlink < 60000)) }
 {
-    let set = mayrequest_at(s, p.index);
-    let permitted = in_set(set, a);
-    if !permitted {
+    if !in_set(mayrequest_at(s, p.index), a) {
         return Err(Refusal::NotPermitted);
     }
     let o = live_owner(s, t);
-    let ended = !(t == 0) & o.is_none();
-    if ended {
+    if t != 0 && o.is_none() {
         return Err(Refusal::NotAllowedNow);
     }
-    let late = is_late_at(s, o);
-    if late {
+    if is_late_at(s, o) {
         return Err(Refusal::TimedOut);
     }
-    let some = is_offered(s, a);
-    if !some {
+    if !is_offered(s, a) {
         return Err(Refusal::NotOffered);
     }
-    let left = is_link_left(s);
-    if !left {
+    if !is_link_left(s) {
         return Err(Refusal::NoRoomLeft);
     }
     Ok(())
@@ -158,10 +139,8 @@ pub(crate) fn open_link(
     requires { ((view s.old).count < 32) × ((view s.old).lastlink < 60000) }
     ensures { (result ≡ (view s.old).lastlink + 1) × (view s.new ≡ added (view s.old) (new_link ((view s.old).lastlink + 1) kind p.index attached a t c sender)) }
 {
-    let last = last_link(s);
-    let d = last + 1;
-    let l = new_link(d, kind, p, attached, a, t, c, sender);
-    add_link(s, l);
+    let d = last_link(s) + 1;
+    add_link(s, new_link(d, kind, p, attached, a, t, c, sender));
     d
 }
 
@@ -177,21 +156,14 @@ pub(crate) fn tpacall(
     requires { (view s.old).count ≤ 32 }
     ensures { ruled_by (told_of result) (view s.new) ≡ request_of (view s.old) p.index a b c }
 {
-    let own = tx_of(s, p);
-    let service = is_service(a);
-    let good = service & ((b <= 3) & !((b == codes::TPNOREPLY) & !(own == 0)));
-    if !good {
+    let bare = b == codes::TPNOREPLY && tx_of(s, p) != 0;
+    if !is_service(a) || b > 3 || bare {
         return Err(Refusal::BadArgument);
     }
     let t = link_tx(s, p, b);
     ask_link(s, p, t, a)?;
-    let attached = open_end(b);
-    let d = open_link(s, 0, p, attached, a, t, c, 0);
-    let silent = no_reply(b);
-    if silent {
-        return Ok(accept(0));
-    }
-    Ok(accept(d))
+    let d = open_link(s, 0, p, open_end(b), a, t, c, 0);
+    Ok(accept(if no_reply(b) { 0 } else { d }))
 }
 
 // Kind 13.
@@ -206,36 +178,22 @@ pub(crate) fn tpconnect(
     requires { (view s.old).count ≤ 32 }
     ensures { ruled_by (told_of result) (view s.new) ≡ connect_of (view s.old) p.index a b c }
 {
-    let service = is_service(a);
-    let flags = connect_flags(b);
-    let good = service & flags;
-    if !good {
+    if !(is_service(a) && connect_flags(b)) {
         return Err(Refusal::BadArgument);
     }
     let t = link_tx(s, p, b);
     ask_link(s, p, t, a)?;
-    let sender = first_sender(b);
-    let d = open_link(s, 1, p, 1, a, t, c, sender);
-    Ok(accept(d))
+    Ok(accept(open_link(s, 1, p, 1, a, t, c, first_sender(b))))
 }
 
 // May party p take a link?
+#[tactic(auto, unfolding(rules::specs::Requests::is_idle, rules::specs::Transaction::tx_of, rules::specs::Transaction::served_tx, rules::specs::Choice::pick))]
 pub(crate) fn is_idle(s: &[u32; WORDS], p: PartyNumber) -> bool
     requires { (view s.now).count ≤ 32 }
     ensures { result ≡ is_idle (view s.now) p.index }
 {
     let q = party_at(s, p.index);
-    if q.opened != 1 {
-        return false;
-    }
-    if q.served != 0 {
-        return false;
-    }
-    if q.owned != 0 {
-        return false;
-    }
-    let ends = has_own_end(s, p);
-    !ends
+    q.opened == 1 && q.served == 0 && q.owned == 0 && !has_own_end(s, p)
 }
 
 // Is it a waiting link of a service that the party offers?
@@ -243,8 +201,7 @@ pub(crate) fn is_idle(s: &[u32; WORDS], p: PartyNumber) -> bool
 pub(crate) fn is_for(q: Party, l: Link) -> bool
     ensures { result ≡ fits q l }
 {
-    let has = is_offering(l.service, q);
-    (l.state == 0) & has
+    l.state == 0 && is_offering(l.service, q)
 }
 
 // The place of the waiting link with the lowest number.
@@ -262,12 +219,12 @@ pub(crate) fn dispatch_event(l: Link) -> u32
     ensures { result ≡ dispatch_event l }
 {
     if l.kind == 0 {
-        return codes::REQUEST_DISPATCHED;
+        codes::REQUEST_DISPATCHED
+    } else if l.sender == 0 {
+        codes::RECEIVER_DISPATCHED
+    } else {
+        codes::SENDER_DISPATCHED
     }
-    if l.sender == 0 {
-        return codes::RECEIVER_DISPATCHED;
-    }
-    codes::SENDER_DISPATCHED
 }
 
 // The link l at the place i becomes working for party p.
@@ -276,18 +233,28 @@ pub(crate) fn dispatch_at(s: &mut [u32; WORDS], p: PartyNumber, i: usize, l: Lin
     requires { i < 32 }
     ensures { ruled_by result (view s.new) ≡ dispatched (view s.old) p.index i l }
 {
-    let event = dispatch_event(l);
-    let mut q = party_at(s, p.index);
-    q.served = l.number;
-    let mut k = l;
-    k.state = 1;
-    k.server = p.index as u32;
-    put_party(s, p.index, q);
-    put_link(s, i, k);
+    let q = party_at(s, p.index);
+    put_party(
+        s,
+        p.index,
+        Party {
+            served: l.number,
+            ..q
+        },
+    );
+    put_link(
+        s,
+        i,
+        Link {
+            state: 1,
+            server: p.index as u32,
+            ..l
+        },
+    );
     Told {
         code: codes::TP_ACCEPTED,
         value: l.number,
-        event,
+        event: dispatch_event(l),
         token: l.first,
         service: l.service,
     }
@@ -299,8 +266,7 @@ pub(crate) fn dispatch(s: &mut [u32; WORDS], p: PartyNumber) -> Result<Told, Ref
     requires { (view s.old).count ≤ 32 }
     ensures { ruled_by (told_of result) (view s.new) ≡ dispatch_of (view s.old) p.index }
 {
-    let idle = is_idle(s, p);
-    if !idle {
+    if !is_idle(s, p) {
         return Err(Refusal::NotAllowedNow);
     }
     let Some(i) = next_waiting(s, p) else {
