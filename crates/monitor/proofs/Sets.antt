@@ -1,40 +1,15 @@
--- Laws of a set of services: which numbers are services, and a rule on one; how many a set has, and the bit of one.
+-- Laws of a set of services: how many a set has, and the bit of one.
 -- Assumes nothing.
 use Prim.Native.Nat.{ℕ, zero, suc, ◌+◌, ◌-◌, ◌*◌, ◌/◌, ◌%◌, ◌^◌, ◌≤◌, ◌<◌}
 use mathlib.Core.Path.{◌≡◌, refl, ap, ap₂, sym, ◌∙◌}
 use mathlib.Core.Bool.{Bool, true, false, ◌&&◌}
 use native.Mathlib.Nat.{mod-lt, mod-le, mod-one, mod-eq_of_lt, zero-lt-suc, one-mul, suc-mul, mul-le-mul_right, div-mul-le_self}
 use native.Mathlib.Omega.{arith}
-use borrow.Author.Tests.{le-leb, lt-leb, eqb-true, eqb-false}
+use borrow.Author.Tests.{le-leb, eqb-true, eqb-false}
 use lib.Dec.{eqb, leb, lit<}
 use lib.Count.{ones, ones_cat}
 use lib.Pow.{mod-pow-add, pow-add, pow_pos, shl_exact, shr_lt, split}
-use Rattle.rules.specs.declared.Party.{Party}
-use Rattle.rules.specs.declared.Monitor.{Monitor}
-use Rattle.rules.specs.declared.Ruled.{Ruled}
-use Rattle.rules.specs.Codes.{bad_argument}
-use Rattle.rules.specs.Record.{party, ask}
 use Rattle.rules.specs.Services.{is_service, bit_of, in_set, count_to, offered}
-use Rattle.rules.proofs.Logic.{pick_true}
-
--- ---- which numbers are services
-pub below_services : (a : ℕ) → a < 1 → is_service a ≡ false
-below_services a h = ap (λ (b : Bool). b && leb a 64) (lt-leb 1 a h)
-
-pub above_services : (a : ℕ) → 64 < a → is_service a ≡ false
-above_services a h = ap (λ (b : Bool). b && leb a 64) (le-leb 1 a (omega arith)) ∙ lt-leb a 64 h
-
-pub within_services : (a : ℕ) → 1 ≤ a → a ≤ 64 → is_service a ≡ true
-within_services a l h = ap (λ (b : Bool). b && leb a 64) (le-leb 1 a l) ∙ le-leb a 64 h
-
--- a rule on a service and on what party p offers, past the first question, of the party q that was read
-pub of_service : (m : Monitor) (p a : ℕ) (rest : Party → Ruled) {q : Party} → 1 ≤ a → a ≤ 64 → q ≡ party m p → ask m (is_service a) bad_argument (rest (party m p)) ≡ rest q
-of_service m p a rest l h e = pick_true _ _ _ (within_services a l h) ∙ ap rest (sym e)
-
--- a set has no number that is no service
-pub in_set_as : (s a : ℕ) (b : Bool) → is_service a ≡ b → in_set s a ≡ b && eqb (bit_of s a) 1
-unfolding in_set
-in_set_as s a b e = ap (λ (t : Bool). t && eqb (bit_of s a) 1) e
 
 -- ---- the ones of a set are as many as the services in it
 bit_ones : (b : ℕ) → b < 2 → ones b ≡ b
@@ -89,7 +64,8 @@ shifted a l h = shl_exact 1 (a - 1) 64 (lit< tt) (omega arith) ∙ one-mul (2 ^ 
 -- ---- a service joins a set and leaves it
 module _ (s a : ℕ) (l : 1 ≤ a) (h : a ≤ 64) where
   its_bit : (b : Bool) → in_set s a ≡ b → eqb (bit_of s a) 1 ≡ b
-  its_bit b e = sym (in_set_as s a true (within_services a l h)) ∙ e
+  unfolding in_set
+  its_bit b e = sym (rw (le-leb 1 a l, le-leb a 64 h)) ∙ e
 
   pub joins : s < 2 ^ 64 → in_set s a ≡ false → s + 2 ^ (a - 1) < 2 ^ 64
   joins k e =

@@ -42,7 +42,7 @@ pub(crate) fn connect_flags(b: u32) -> bool
 pub(crate) fn open_end(b: u32) -> u32
     ensures { result ≡ pick (no_reply b) 0 1 }
 {
-    if no_reply(b) { 0 } else { 1 }
+    u32::from(!no_reply(b))
 }
 
 #[tactic(auto, unfolding(rules::specs::Choice::pick))]
