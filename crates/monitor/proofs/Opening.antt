@@ -1,10 +1,6 @@
 -- The questions before a new link, of the service and the flags and then of the party, its transaction, the service and the room.
 -- Assumes nothing.
-use Prim.Native.Nat.{◌<◌}
-use mathlib.Core.Path.{◌≡◌}
-use mathlib.Core.Bool.{true}
-use borrow.Author.Tests.{ltb-true}
-use lib.Dec.{ltb}
+use Rattle.std.proofs.Common.{◌<◌, ◌≡◌, true, ltb-true, ltb}
 use Rattle.rules.specs.Requests.{link_left}
 use Rattle.rules.specs.declared.Monitor.{Monitor}
 use Rattle.rules.proofs.Logic.{and_l, and_r}

@@ -1,14 +1,7 @@
 -- Whether a transaction has ended or expired, by its owner.
 -- Assumes nothing.
-use Rattle.std.specs.Prelude.{Option, IfSome, is_some}
-use Prim.Native.Nat.{ℕ, ◌≤◌, ◌<◌}
-use mathlib.Core.Path.{◌≡◌, ap, sym, subst, ◌∙◌}
-use mathlib.Core.Bool.{not, ◌&&◌}
-use mathlib.Core.List.{List}
-use native.Mathlib.Omega.{arith}
-use borrow.Author.Tests.{ltb-true, ltb-false}
-use lib.Dec.{eqb, ltb}
-use lib.ListN.{length, get_or-eq_default}
+use Rattle.std.proofs.Common.{Option, IfSome, is_some, ℕ, ◌≤◌, ◌<◌, ◌≡◌, ap, sym, subst, ◌∙◌, not, ◌&&◌, List, arith, ltb-true, ltb-false, eqb, ltb, length}
+use lib.ListN.{get_or-eq_default}
 use Rattle.rules.specs.Record.{fresh_party, owns, party}
 use Rattle.rules.specs.Transaction.{owner_of, ended, late, expired}
 use Rattle.rules.proofs.Logic.{test, pick_true, pick_false}

@@ -1,10 +1,6 @@
 -- Laws of the request ends: before the first one there is none that has expired or has its reply, and a reply that is there can be fetched.
 -- Assumes nothing.
-use Prim.Native.Nat.{ℕ, ◌≤◌, ◌<◌}
-use mathlib.Core.Path.{◌≡◌, ap, ◌∙◌}
-use mathlib.Core.Bool.{Bool, true, ◌&&◌}
-use mathlib.Core.List.{List}
-use native.Mathlib.Omega.{arith}
+use Rattle.std.proofs.Common.{ℕ, ◌≤◌, ◌<◌, ◌≡◌, ap, ◌∙◌, Bool, true, ◌&&◌, List, arith}
 use Rattle.rules.specs.declared.Link.{Link}
 use Rattle.rules.specs.Lists.{first_of}
 use Rattle.rules.specs.Record.{is_ending, is_returned, live}

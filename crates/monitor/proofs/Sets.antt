@@ -1,15 +1,11 @@
 -- Laws of a set of services: how many a set has, and the bit of one.
 -- Assumes nothing.
-use Prim.Native.Nat.{ℕ, zero, suc, ◌+◌, ◌-◌, ◌*◌, ◌/◌, ◌%◌, ◌^◌, ◌≤◌, ◌<◌}
-use mathlib.Core.Path.{◌≡◌, refl, ap, ap₂, sym, ◌∙◌}
-use mathlib.Core.Bool.{Bool, true, false, ◌&&◌}
-use native.Mathlib.Nat.{mod-lt, mod-le, mod-one, mod-eq_of_lt, zero-lt-suc, one-mul, suc-mul, mul-le-mul_right, div-mul-le_self}
-use native.Mathlib.Omega.{arith}
-use borrow.Author.Tests.{le-leb, eqb-true, eqb-false}
-use lib.Dec.{eqb, leb, lit<}
+use Rattle.std.proofs.Common.{ℕ, zero, suc, ◌+◌, ◌-◌, ◌*◌, ◌/◌, ◌%◌, ◌^◌, ◌≤◌, ◌<◌, ◌≡◌, refl, ap, ap₂, sym, ◌∙◌, Bool, true, false, mod-lt, mod-eq_of_lt, zero-lt-suc, one-mul, suc-mul, mul-le-mul_right, div-mul-le_self, arith, le-leb, eqb-true, eqb, lit<, pow-add, pow_pos, shl_exact, shr_lt}
+use native.Mathlib.Nat.{mod-le, mod-one}
+use borrow.Author.Tests.{eqb-false}
 use lib.Count.{ones, ones_cat}
-use lib.Pow.{mod-pow-add, pow-add, pow_pos, shl_exact, shr_lt, split}
-use Rattle.rules.specs.Services.{is_service, bit_of, in_set, count_to, offered}
+use lib.Pow.{mod-pow-add, split}
+use Rattle.rules.specs.Services.{bit_of, in_set, count_to, offered}
 
 -- ---- the ones of a set are as many as the services in it
 bit_ones : (b : ℕ) → b < 2 → ones b ≡ b

@@ -178,7 +178,7 @@ pub(crate) fn tpconnect(
     requires { (view s.old).count ≤ 32 }
     ensures { ruled_by (told_of result) (view s.new) ≡ connect_of (view s.old) p.index a b c }
 {
-    if !(is_service(a) && connect_flags(b)) {
+    if !is_service(a) || !connect_flags(b) {
         return Err(Refusal::BadArgument);
     }
     let t = link_tx(s, p, b);
