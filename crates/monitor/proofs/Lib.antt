@@ -8,7 +8,6 @@ pub mod FileTrip
 pub mod Laws
 pub mod Lending
 pub mod Lists
-pub mod Opening
 pub mod Owners
 pub mod Pieces
 pub mod Prefixes

@@ -101,7 +101,7 @@ pub(crate) fn is_link_left(s: &[u32; WORDS]) -> bool
 }
 
 // The questions after the flags.
-#[tactic(auto, using(crate::proofs::Owners::owner_among, crate::proofs::Owners::ended_by, crate::proofs::Owners::expired_by, crate::proofs::Opening::room_left), unfolding(rules::specs::Requests::ask_link, rules::specs::Services::may_request, rules::specs::Choice::pick))]
+#[tactic(auto, using(crate::proofs::Owners::ended_by, crate::proofs::Owners::expired_by), unfolding(rules::specs::Requests::ask_link, rules::specs::Services::may_request, rules::specs::Choice::pick))]
 pub(crate) fn ask_link(s: &[u32; WORDS], p: PartyNumber, t: u32, a: u32) -> Result<(), Refusal>
     ensures answer { (rest : Ruled) → ask_link (view s.now) p.index t a rest ≡ asked result (view s.now) rest }
     ensures room { IfOk result (λ _. ((view s.now).count < 32) × ((view s.now).lastlink < 60000)) }
