@@ -1,17 +1,22 @@
 // Short stored files, run from a record many times over, or listed from it.
 use monitor::Store;
 use std::fs;
+use std::io::Read;
 use std::rt::Files;
 
-// A stored file; nothing where it cannot be read, which is told.
+// The first bytes of a stored file, at most 4,096; where a read fails, those before it. Nothing where it cannot be opened, which is told. `public_calls` has
+// the like: no library that both use has a heap.
 fn load<R: Files + AllocGlobal>(rt: &R, errors: &impl Print, name: &str) -> Vec<u8> {
-    match fs::read(rt, name) {
-        Ok(bytes) => bytes,
+    let mut bytes = Vec::new(rt.alloc());
+    match fs::open(rt, name) {
+        Ok(file) => {
+            let _ = file.take(4096).read_to_end(&mut bytes);
+        }
         Err(e) => {
             let _ = println!(errors; "{name}: {e}");
-            Vec::new(rt.alloc())
         }
     }
+    bytes
 }
 
 // The record after a stored file of up to 40 calls that is run a number of times.

@@ -9,7 +9,7 @@ mod told;
 use listing::Turned;
 use monitor::Store;
 use std::io::Read;
-pub use told::{Failure, tell};
+pub use told::Failure;
 
 // What waits in the input's buffer: how many bytes, and whether the input ended there.
 #[derive(Clone, Copy)]
@@ -145,6 +145,6 @@ fn list<R: Read>(source: &mut R, out: &impl Print) -> Result<(), Failure> {
 // Lists the drill file that a reader gives, up to its end, a bad number or a failure, which is told in the program's name.
 pub fn list_all<R: Read>(source: &mut R, out: &impl Print, errors: &impl Print, program: &[u8]) {
     if let Err(failure) = list(source, out) {
-        tell(errors, program, failure);
+        told::tell(errors, program, failure);
     }
 }

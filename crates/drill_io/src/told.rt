@@ -25,7 +25,7 @@ impl fmt::Display for Failure {
 impl Error for Failure {}
 
 // Tells a failure in a program's name, which need not be text.
-pub fn tell(errors: &impl Print, program: &[u8], failure: Failure) {
+pub(crate) fn tell(errors: &impl Print, program: &[u8], failure: Failure) {
     let _ = errors.write_all(program);
     let _ = println!(errors; ": {failure}");
 }

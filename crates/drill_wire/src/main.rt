@@ -77,6 +77,6 @@ fn list<R: Read>(source: &mut R, out: &impl Print) -> Result<(), Failure> {
 
 fn main(rt: HostRuntime) {
     if let Err(failure) = list(&mut rt.stdin(), &rt.stdout()) {
-        drill_io::tell(&rt.stderr(), b"drill_wire", failure);
+        let _ = eprintln!(rt; "drill_wire: {failure}");
     }
 }

@@ -37,12 +37,14 @@ fn line_end(text: &[u8]) -> usize
         .unwrap_or(text.len())
 }
 
-// Writes a text whose first line goes on with what is sent.
+// Writes a text whose first line goes on with what is sent. Once the line is written, each part is tried, also where the one before it failed.
 fn write_with(out: &impl Print, text: &[u8], sent: &[u8]) -> io::Result<()> {
     let end = line_end(text);
     out.write_all(&text[..end])?;
-    print!(out; ":{}", Hex(sent))?;
-    out.write_all(&text[end..])
+    let colon = out.write_all(b":");
+    let bytes = print!(out; "{}", Hex(sent));
+    let rest = out.write_all(&text[end..]);
+    colon.and(bytes).and(rest)
 }
 
 // Writes the text of a turn with this call at its front, the answer in these places. A sequence takes at most 11 bytes.

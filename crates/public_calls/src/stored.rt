@@ -1,21 +1,30 @@
 // Stored drill files, and the records that cases start from.
 use monitor::Store;
+use std::fs::File;
+use std::io::Read;
 use std::{fs, io};
 
 // How many answer places there are at most. They hold 77 before a call.
 pub const PLACES: usize = 237;
 
-// Tells on standard error that a file cannot be read: its name, a colon and why, without the error's number.
+// Tells on standard error that a file cannot be opened: its name, a colon and why, without the error's number.
 fn tell(rt: &HostRuntime, name: &str, error: io::Error) -> io::Result<()> {
     let words = error.to_string(rt.alloc())?;
     let why = words.split(" (os error ").next().unwrap_or("");
     eprintln!(rt; "{name}: {why}")
 }
 
-// The bytes of a file; nothing where it cannot be read.
+// The first bytes of a file, at most 4,096. Where a read fails, those before it.
+pub fn first_bytes(rt: &HostRuntime, file: File) -> Vec<u8> {
+    let mut bytes = Vec::new(rt.alloc());
+    let _ = file.take(4096).read_to_end(&mut bytes);
+    bytes
+}
+
+// The first bytes of a stored file; nothing where it cannot be opened, which is told. `drill_cases` has the like: no library that both use has a heap.
 pub fn load(rt: &HostRuntime, name: &str) -> Vec<u8> {
-    match fs::read(rt, name) {
-        Ok(bytes) => bytes,
+    match fs::open(rt, name) {
+        Ok(file) => first_bytes(rt, file),
         Err(error) => {
             let _ = tell(rt, name, error);
             Vec::new(rt.alloc())

@@ -2,7 +2,7 @@
 ghost use Rattle.std.specs.Prelude.{◌≤◌};
 
 use super::show;
-use super::stored::{PLACES, kept, load, unsound};
+use super::stored::{PLACES, first_bytes, kept, load, unsound};
 use hex_io::Hex;
 use listing::Turned;
 use monitor::Store;
@@ -145,8 +145,8 @@ fn single_turns(rt: &HostRuntime, m: Store) -> io::Result<()> {
 fn read_in_two(rt: &HostRuntime, cut: usize, lent: Lent) -> io::Result<()>
     requires { cut ≤ 32 }
 {
-    let file = fs::read(rt, "case-06")?;
-    lent.chunk_turns(rt, file.as_slice(), cut)
+    let file = fs::open(rt, "case-06")?;
+    lent.chunk_turns(rt, first_bytes(rt, file).as_slice(), cut)
 }
 
 pub fn turns(rt: &HostRuntime) -> io::Result<()> {
