@@ -20,6 +20,7 @@ pub mod Sets
 pub mod Steady
 pub mod Sweep
 pub mod Talking
+pub mod Tokens
 pub mod Turns
 pub mod Usual
 pub mod Whole
