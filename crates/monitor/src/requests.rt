@@ -205,7 +205,6 @@ pub(crate) fn is_for(q: Party, l: Link) -> bool
 }
 
 // The place of the waiting link with the lowest number.
-#[tactic(auto, unfolding(rules::specs::Requests::fits))]
 pub(crate) fn next_waiting(s: &[u32; WORDS], p: PartyNumber) -> Option<usize>
     requires { (view s.now).count ≤ 32 }
     ensures { result ≡ place_among (view s.now).count (next_waiting (view s.now) p.index) }
