@@ -7,6 +7,7 @@ use mathlib.Core.Bool.{Bool, true}
 use native.Mathlib.Nat.{le_of_suc-le-suc, not-suc-le-zero}
 use native.Mathlib.Omega.{arith}
 use borrow.Author.Tests.{lt-ltb, leb-true}
+use lib.Dec.{ltb}
 use lib.ListN.{length, drop, get_or, drop_of_length-le}
 use lib.Seq.{length-take-le}
 use Rattle.rules.specs.declared.Party.{Party}
@@ -14,6 +15,7 @@ use Rattle.rules.specs.declared.Link.{Link}
 use Rattle.rules.specs.declared.Monitor.{Monitor}
 use Rattle.rules.specs.Record.{is_returned, is_ending, live, party, place_of, link_of, replaced, changed, fresh_party, fresh_link}
 use Rattle.rules.specs.Sound.{sound}
+use Rattle.rules.specs.Transaction.{tx_left}
 use Rattle.rules.proofs.Logic.{pick_true, by_test}
 use Rattle.rules.proofs.Fine.{Shape}
 use Rattle.rules.proofs.Sound.{sound_ended, sound_placed}
@@ -127,3 +129,7 @@ module _ (xs : List ℕ) (h : sound (view xs) ≡ true) (i : ℕ) (k : i < (view
   -- its outcome, if it is returned, is 8, 4 or 2
   pub read_ended : is_returned l ≡ true → is_ending l.outcome ≡ true
   read_ended t = ap (λ (x : Link). is_ending x.outcome) is_live ∙ sound_ended (view xs) h i (ap (λ (x : Link). is_returned x) (sym is_live) ∙ t)
+
+-- ---- a transaction number is left where the last one, n, is below the greatest
+pub tx_left_lem : (m : Monitor) (n : ℕ) → n ≡ m.lasttx → n < 60000 → tx_left m ≡ true
+tx_left_lem m n e h = ap (λ (t : ℕ). ltb t 60000) (sym e) ∙ lt-ltb n 60000 h

@@ -4,7 +4,6 @@ ghost use Rattle.rules.specs.Codes.{code_of};
 ghost use Rattle.rules.specs.Sound.{sound};
 ghost use Rattle.rules.specs.Step.{rule_of, advanced, answered_to, call_of, step_of};
 ghost use Rattle.monitor.specs.Kinds.{kind_number};
-ghost use Rattle.monitor.specs.Words.{words};
 ghost use Rattle.monitor.specs.View.{view, ruled_by, told_of, stepped, code_answer};
 
 use super::conversations::{tpdiscon, tprecv, tpsend};
@@ -27,7 +26,7 @@ use super::words::{Store, WORDS, clock, set_clock};
 use super::{Stepped, Told};
 use rules::{Answer, Call, Refusal};
 
-// Each kind decides by its number.
+// Each kind by its rule. A match, since the kinds are closed and take different arguments.
 #[tactic(auto, using(crate::proofs::Laws::sound_room), unfolding(rules::specs::Step::rule_of, rules::specs::Choice::pick))]
 pub(crate) fn rule(
     s: &mut [u32; WORDS],

@@ -1,4 +1,4 @@
-use Rattle.monitor.proofs.Usual.{◌-◌, ◌≡◌, length, view}
+use Rattle.monitor.proofs.Usual.{◌-◌, length, view}
 use Rattle.monitor.specs.File.{calls_from}
 use Rattle.monitor.proofs.Calls.{Runs}
 use Rattle.monitor.proofs.file.run_calls.Given as goal
