@@ -65,7 +65,7 @@ pub fn server() -> Party {
     }
 }
 
-// Nothing yet.
+// Nothing yet. Each 0 is written: no `Default` gives this record, since a fresh party has rights.
 fn fresh() -> Monitor {
     Monitor {
         clock: 0,

@@ -23,13 +23,10 @@ impl fmt::Display for Code {
     }
 }
 
-// Is the record the same, word for word? `monitor::equal` cannot tell, since it says no for unsound ones.
+// Is the record the same, word for word? `monitor::equal` cannot tell, since it says no for unsound ones. `public_calls` has the like: what both use would be
+// public in `monitor`, with a contract of its own, for two words.
 fn kept(before: Store, after: Store) -> &'static str {
-    if before.words == after.words {
-        "kept"
-    } else {
-        "changed"
-    }
+    if before == after { "kept" } else { "changed" }
 }
 
 // A party's call at clock 7.

@@ -2,6 +2,7 @@
 use monitor::Store;
 use rules::{Link, Monitor, Party};
 
+// The low half of a number. `monitor` has the like of this and of `high`, private there: its public ones would need contracts and callers outside.
 fn low(x: u64) -> u32 {
     (x & 0xffff_ffff) as u32
 }
@@ -59,23 +60,19 @@ fn link_words(l: Link) -> [u32; 19] {
     ]
 }
 
-fn put(places: &mut [u32], words: &[u32]) {
-    for (place, word) in places.iter_mut().zip(words) {
-        *place = *word;
-    }
-}
-
 pub fn stored(m: Monitor) -> Store {
     let mut s = Store::fresh();
     s.words[0] = m.clock;
     s.words[1] = m.lastlink;
     s.words[2] = m.lasttx;
     s.words[3] = (m.count & 0xffff_ffff) as u32;
-    for (places, q) in s.words[4..292].chunks_mut(18).zip(&m.parties) {
-        put(places, &party_words(*q));
+    let (parties, _) = s.words[4..292].as_chunks_mut::<18>();
+    for (places, q) in parties.iter_mut().zip(&m.parties) {
+        *places = party_words(*q);
     }
-    for (places, l) in s.words[292..].chunks_mut(19).zip(&m.links) {
-        put(places, &link_words(*l));
+    let (links, _) = s.words[292..].as_chunks_mut::<19>();
+    for (places, l) in links.iter_mut().zip(&m.links) {
+        *places = link_words(*l);
     }
     s
 }
