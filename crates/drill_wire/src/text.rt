@@ -4,25 +4,24 @@ ghost use Rattle.std.specs.Prelude.{◌≤◌, length};
 use hex_io::Hex;
 use rules::{Answer, Call};
 use std::io;
+use std::num::TryFromIntError;
 
-// The number in an answer place. All but the code are of 32 bits.
-fn number_in(place: i64) -> u32 {
-    u32::try_from(place).unwrap_or(0)
-}
-
-fn answer_in([code, value, event, token, service, tx]: [i64; 6]) -> Answer {
-    Answer {
+// The answer in six places. All but the code are of 32 bits.
+fn answer_in(places: [i64; 6]) -> Result<Answer, TryFromIntError> {
+    let [code, value, event, token, service, tx] = places;
+    Ok(Answer {
         code,
-        value: number_in(value),
-        event: number_in(event),
-        token: number_in(token),
-        service: number_in(service),
-        tx: number_in(tx),
-    }
+        value: value.try_into()?,
+        event: event.try_into()?,
+        token: token.try_into()?,
+        service: service.try_into()?,
+        tx: tx.try_into()?,
+    })
 }
 
-// The bytes that are sent for a call, put into the buffer; nothing where nothing is sent.
-fn sent(buffer: &mut [u8], call: Call, answer: Answer) -> Option<&[u8]> {
+// The bytes that are sent for a call with its answer in these places, put into the buffer; nothing where nothing is sent.
+fn sent(buffer: &mut [u8], call: Call, places: [i64; 6]) -> Option<&[u8]> {
+    let answer = answer_in(places).ok()?;
     let request = wire::wire_of(call, answer)?;
     let count = wire::wire_write(buffer, request).ok()?;
     buffer.get(..count)
@@ -55,7 +54,7 @@ pub fn write_lines(
     places: [i64; 6],
 ) -> io::Result<()> {
     let mut buffer = [0; 11];
-    match call.and_then(|call| sent(&mut buffer, call, answer_in(places))) {
+    match call.and_then(|call| sent(&mut buffer, call, places)) {
         Some(bytes) => write_with(out, text, bytes),
         None => out.write_all(text),
     }
