@@ -9,7 +9,7 @@ mod show;
 
 use std::io::Read;
 
-// Answers the next query; nothing where there is none.
+// Answers the next query; nothing where there is none. The byte is matched here and nowhere else, so an enum with `TryFrom` would be a second match.
 fn answer_next<R: Read>(source: &mut R, out: &impl Print) -> Option<()> {
     let [asked, count] = query::bytes::<R, 2>(source)?;
     match asked {

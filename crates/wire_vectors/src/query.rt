@@ -44,6 +44,7 @@ pub fn answer_write<R: Read>(source: &mut R, out: &impl Print, room: u8) -> Opti
     Some(())
 }
 
+// Field by field, as a request and an answer are read: an array of six numbers would have to be taken apart again.
 fn call<R: Read>(source: &mut R) -> Option<Call> {
     Some(Call {
         clock: number(source)?,

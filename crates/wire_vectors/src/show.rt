@@ -29,6 +29,7 @@ pub fn write(out: &impl Print, buffer: &mut [u8], r: Request) -> io::Result<()> 
     word.and(asked).and(room).and(told).and(bytes)
 }
 
+// `public_calls` prints a call as here: `Display` for it would be public in `rules`, with a contract of its own, for the two.
 pub fn of(out: &impl Print, c: Call, a: Answer) -> io::Result<()> {
     let asked = print!(out;
         "of {} {} {} {} {} {},",
