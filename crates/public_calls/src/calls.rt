@@ -4,8 +4,10 @@ use hex_io::Hex;
 use monitor::WriteError;
 use number::ReadError;
 use rules::Call;
+use std::alloc::AllocError;
 use std::io;
 
+// `wire_vectors` prints a call as here: `Display` for it would be public in `rules`, with a contract of its own, for the two.
 fn show_call(rt: &impl Print, call: Call) -> io::Result<()> {
     print!(rt;
         "{} {} {} {} {} {}",
@@ -13,7 +15,8 @@ fn show_call(rt: &impl Print, call: Call) -> io::Result<()> {
     )
 }
 
-// What stands at a place; the place after it, where it is a call.
+// What stands at a place; the place after it, where it is a call. Errors are printed as C's numbers for them: `Display` would need a wrapper for each enum, of
+// another crate, for two numbers.
 fn show_read(rt: &impl Print, name: &str, input: &[u8], place: usize) -> io::Result<usize> {
     print!(rt; "read_call {name} at {place}: ")?;
     match monitor::read_call(input, place) {
@@ -45,21 +48,18 @@ pub fn reads(rt: &HostRuntime) -> io::Result<()> {
     Ok(())
 }
 
-// The numbers of a file's calls, of up to 39; 0 past them.
-pub fn numbers(input: &[u8]) -> [u32; 234] {
-    let mut list = [0; 234];
+// The numbers of a file's calls, each of which takes a byte or more.
+pub fn numbers(rt: &HostRuntime, input: &[u8]) -> Result<Vec<u32>, AllocError> {
+    let mut list = Vec::new(rt.alloc());
     let mut at = 0;
-    for places in list.chunks_mut(6) {
+    for _ in 0..input.len() {
         let Ok(Some((call, next))) = monitor::read_call(input, at) else {
             break;
         };
-        let numbers = [call.clock, call.party, call.kind, call.a, call.b, call.c];
-        for (place, number) in places.iter_mut().zip(numbers) {
-            *place = number;
-        }
+        list.extend_from_slice(&[call.clock, call.party, call.kind, call.a, call.b, call.c])?;
         at = next;
     }
-    list
+    Ok(list)
 }
 
 // Writes a list at a place, shows the buffer, and reads there.
@@ -108,6 +108,6 @@ fn write_list(rt: &impl Print, list: &[u32]) -> io::Result<()> {
 }
 
 pub fn writes(rt: &HostRuntime) -> io::Result<()> {
-    let list = numbers(load(rt, "case-06").as_slice());
-    write_list(rt, &list)
+    let list = numbers(rt, load(rt, "case-06").as_slice())?;
+    write_list(rt, list.as_slice())
 }

@@ -3,84 +3,87 @@ ghost use Rattle.std.specs.Prelude.{◌≤◌};
 
 use super::show::{ends, places};
 use super::stored::{PLACES, kept, load, unsound};
-use monitor::{FileRan, Store};
+use monitor::Store;
 use std::io;
 
-fn show_ran(rt: &impl Print, before: Store, ran: FileRan, answers: &[i64]) -> io::Result<()> {
+// The two library calls that run the bytes of a drill file.
+#[derive(Clone, Copy)]
+enum By {
+    File,
+    Piece { last: bool },
+}
+
+// Runs bytes, with so many answer places.
+fn run(rt: &impl Print, m: Store, name: &str, input: &[u8], by: By, count: usize) -> io::Result<()>
+    requires { count ≤ 237 }
+{
+    let mut room = [77; PLACES];
+    let answers = &mut room[..count];
+    let bytes = input.len();
+    let ran = match by {
+        By::File => {
+            print!(rt; "run_file {name}, {bytes} bytes, {count} places: ")?;
+            monitor::run_file(m, input, answers)
+        }
+        By::Piece { last } => {
+            print!(rt;
+                "run_piece {name}, {bytes} bytes, {}, {count} places: ",
+                ends(last)
+            )?;
+            monitor::run_piece(m, input, last, answers)
+        }
+    };
     print!(rt; "code {}, calls {}, used {}", ran.code, ran.calls, ran.used)?;
-    println!(rt; ", record {}", kept(before, ran.store))?;
+    println!(rt; ", record {}", kept(m, ran.store))?;
     places(rt, answers)
 }
 
-fn show_file(
-    rt: &impl Print,
-    m: Store,
-    name: &str,
-    input: &[u8],
-    answers: &mut [i64],
-) -> io::Result<()> {
-    print!(rt;
-        "run_file {name}, {} bytes, {} places: ",
-        input.len(),
-        answers.len()
-    )?;
-    let ran = monitor::run_file(m, input, answers);
-    show_ran(rt, m, ran, answers)
-}
-
-fn show_piece(
-    rt: &impl Print,
-    m: Store,
-    name: &str,
-    input: &[u8],
-    last: bool,
-    answers: &mut [i64],
-) -> io::Result<()> {
-    print!(rt; "run_piece {name}, {} bytes, {}, ", input.len(), ends(last))?;
-    print!(rt; "{} places: ", answers.len())?;
-    let ran = monitor::run_piece(m, input, last, answers);
-    show_ran(rt, m, ran, answers)
-}
-
-// A stored file, with so many answer places.
 fn file(rt: &HostRuntime, m: Store, name: &str, count: usize) -> io::Result<()>
     requires { count ≤ 237 }
 {
-    let input = load(rt, name);
-    let mut answers = [77; PLACES];
-    show_file(rt, m, name, input.as_slice(), &mut answers[..count])
+    run(rt, m, name, load(rt, name).as_slice(), By::File, count)
 }
 
 fn piece(rt: &HostRuntime, m: Store, name: &str, last: bool, count: usize) -> io::Result<()>
     requires { count ≤ 237 }
 {
-    let input = load(rt, name);
-    let mut answers = [77; PLACES];
-    show_piece(rt, m, name, input.as_slice(), last, &mut answers[..count])
+    run(
+        rt,
+        m,
+        name,
+        load(rt, name).as_slice(),
+        By::Piece { last },
+        count,
+    )
 }
 
 // Two calls, cut after each number of bytes.
 fn cut_files(rt: &impl Print, input: &[u8]) -> io::Result<()> {
     for cut in 0..=input.len() {
-        let mut two = [77; 12];
-        show_file(rt, Store::fresh(), "case-06", &input[..cut], &mut two)?;
+        run(rt, Store::fresh(), "case-06", &input[..cut], By::File, 12)?;
     }
     Ok(())
 }
 
 fn cut_pieces(rt: &impl Print, input: &[u8]) -> io::Result<()> {
     for cut in 0..=input.len() {
-        let mut two = [77; 12];
-        let mut one = [77; 6];
-        show_piece(
+        let part = &input[..cut];
+        run(
             rt,
             Store::fresh(),
             "case-06",
-            &input[..cut],
-            false,
-            &mut two,
+            part,
+            By::Piece { last: false },
+            12,
         )?;
-        show_piece(rt, Store::fresh(), "case-06", &input[..cut], true, &mut one)?;
+        run(
+            rt,
+            Store::fresh(),
+            "case-06",
+            part,
+            By::Piece { last: true },
+            6,
+        )?;
     }
     Ok(())
 }

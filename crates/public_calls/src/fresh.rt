@@ -38,13 +38,14 @@ fn list_of(
 
 // The calls of the file base.
 pub fn lists(rt: &HostRuntime, base: Store) -> io::Result<()> {
-    let list = numbers(load(rt, "base").as_slice());
-    list_of(rt, base, &list, 234, 237)?;
-    list_of(rt, base, &list, 234, 233)?;
-    list_of(rt, base, &list, 233, 237)?;
-    list_of(rt, base, &list, 233, 0)?;
-    list_of(rt, base, &list, 6, 6)?;
-    list_of(rt, base, &list, 0, 0)
+    let numbers = numbers(rt, load(rt, "base").as_slice())?;
+    let list = numbers.as_slice();
+    list_of(rt, base, list, 234, 237)?;
+    list_of(rt, base, list, 234, 233)?;
+    list_of(rt, base, list, 233, 237)?;
+    list_of(rt, base, list, 233, 0)?;
+    list_of(rt, base, list, 6, 6)?;
+    list_of(rt, base, list, 0, 0)
 }
 
 fn show_made(rt: &impl Print, name: &str, m: Store) -> io::Result<()> {

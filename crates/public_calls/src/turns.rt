@@ -19,21 +19,22 @@ fn show_text(rt: &impl Print, out: &[u8], written: usize) -> io::Result<()> {
     Ok(())
 }
 
-// What a turn is lent beside its input: so many answer places, which hold 77, and room for so much text, which holds ee.
+// A stored file, and what its turns are lent beside their input: so many answer places, which hold 77, and room for so much text, which holds ee.
 #[derive(Clone, Copy)]
-struct Lent {
+struct Case {
+    name: &'static str,
     places: usize,
     room: usize,
     ghost places_bound: { places ≤ 237 },
     ghost room_bound: { room ≤ 550 },
 }
 
-impl Lent {
-    fn new(places: usize, room: usize) -> Self
+impl Case {
+    fn new(name: &'static str, places: usize, room: usize) -> Self
         requires places_bound { places ≤ 237 }
         requires room_bound { room ≤ 550 }
     {
-        Lent { places, room }
+        Case { name, places, room }
     }
 
     // A turn on so many bytes of the input.
@@ -41,11 +42,11 @@ impl Lent {
         self,
         rt: &impl Print,
         m: Store,
-        name: &str,
         input: &mut [u8],
         count: usize,
         ended: bool,
     ) -> io::Result<Turned> {
+        let name = self.name;
         let mut answers = [77; PLACES];
         let mut text = [0xEE; 550];
         let places = &mut answers[..self.places];
@@ -77,9 +78,9 @@ impl Lent {
         input: &mut [u8],
         count: usize,
     ) -> io::Result<()> {
-        let turned = self.turn(rt, m, "case-06", input, count, true)?;
+        let turned = self.turn(rt, m, input, count, true)?;
         if !turned.over {
-            self.turn(rt, turned.store, "case-06", input, turned.kept, true)?;
+            self.turn(rt, turned.store, input, turned.kept, true)?;
         }
         Ok(())
     }
@@ -91,73 +92,72 @@ impl Lent {
         let mut buffer = [0xEE; 32];
         let input: &mut [u8] = &mut buffer;
         let count = file.read(&mut input[..cut])?;
-        let first = self.turn(rt, Store::fresh(), "case-06", input, count, false)?;
+        let first = self.turn(rt, Store::fresh(), input, count, false)?;
         let more = match input.get_mut(first.kept..) {
             Some(rest) => file.read(rest)?,
             None => 0,
         };
         self.end_turns(rt, first.store, input, first.kept.saturating_add(more))
     }
-}
 
-// A stored file at the front of a buffer of so many bytes, the rest of which hold ee.
-fn once(
-    rt: &HostRuntime,
-    m: Store,
-    name: &str,
-    size: usize,
-    count: usize,
-    ended: bool,
-    lent: Lent,
-) -> io::Result<()>
-    requires { size ≤ 32 }
-{
-    let file = load(rt, name);
-    let mut buffer = [0xEE; 32];
-    let input = &mut buffer[..size];
-    for (place, byte) in input.iter_mut().zip(file.as_slice()) {
-        *place = *byte;
+    // The file at the front of a buffer of so many bytes, the rest of which hold ee.
+    fn once(
+        self,
+        rt: &HostRuntime,
+        m: Store,
+        size: usize,
+        count: usize,
+        ended: bool,
+    ) -> io::Result<()>
+        requires { size ≤ 32 }
+    {
+        let file = load(rt, self.name);
+        let mut buffer = [0xEE; 32];
+        let input = &mut buffer[..size];
+        for (place, byte) in input.iter_mut().zip(file.as_slice()) {
+            *place = *byte;
+        }
+        self.turn(rt, m, input, count, ended)?;
+        Ok(())
     }
-    lent.turn(rt, m, name, input, count, ended)?;
-    Ok(())
+
+    fn read_in_two(self, rt: &HostRuntime, cut: usize) -> io::Result<()>
+        requires { cut ≤ 32 }
+    {
+        let file = fs::open(rt, self.name)?;
+        self.chunk_turns(rt, first_bytes(rt, file).as_slice(), cut)
+    }
 }
 
 fn single_turns(rt: &HostRuntime, m: Store) -> io::Result<()> {
-    once(rt, m, "case-00", 25, 25, false, Lent::new(24, 550))?;
-    once(rt, m, "case-00", 28, 25, true, Lent::new(27, 550))?;
-    once(rt, m, "case-06", 30, 20, false, Lent::new(12, 286))?;
-    once(rt, m, "case-06", 30, 20, true, Lent::new(12, 286))?;
-    once(rt, m, "case-06", 20, 27, false, Lent::new(12, 286))?;
-    once(rt, m, "case-06", 27, usize::MAX, true, Lent::new(12, 286))?;
-    once(rt, m, "case-06", 27, 27, true, Lent::new(6, 154))?;
-    once(rt, m, "case-06", 27, 27, true, Lent::new(5, 22))?;
-    once(rt, m, "case-06", 27, 27, false, Lent::new(12, 285))?;
-    once(rt, m, "case-06", 27, 27, true, Lent::new(0, 21))?;
-    once(rt, m, "case-35", 16, 11, false, Lent::new(12, 286))?;
-    once(rt, m, "case-43", 16, 7, false, Lent::new(12, 286))?;
-    once(rt, m, "case-48", 16, 14, false, Lent::new(12, 286))?;
-    once(rt, m, "case-48", 16, 14, true, Lent::new(5, 22))?;
-    once(rt, m, "case-01", 4, 0, false, Lent::new(6, 154))?;
-    once(rt, m, "case-01", 4, 0, true, Lent::new(6, 154))?;
-    once(rt, m, "case-01", 0, 1, true, Lent::new(6, 154))
-}
-
-fn read_in_two(rt: &HostRuntime, cut: usize, lent: Lent) -> io::Result<()>
-    requires { cut ≤ 32 }
-{
-    let file = fs::open(rt, "case-06")?;
-    lent.chunk_turns(rt, first_bytes(rt, file).as_slice(), cut)
+    Case::new("case-00", 24, 550).once(rt, m, 25, 25, false)?;
+    Case::new("case-00", 27, 550).once(rt, m, 28, 25, true)?;
+    Case::new("case-06", 12, 286).once(rt, m, 30, 20, false)?;
+    Case::new("case-06", 12, 286).once(rt, m, 30, 20, true)?;
+    Case::new("case-06", 12, 286).once(rt, m, 20, 27, false)?;
+    Case::new("case-06", 12, 286).once(rt, m, 27, usize::MAX, true)?;
+    Case::new("case-06", 6, 154).once(rt, m, 27, 27, true)?;
+    Case::new("case-06", 5, 22).once(rt, m, 27, 27, true)?;
+    Case::new("case-06", 12, 285).once(rt, m, 27, 27, false)?;
+    Case::new("case-06", 0, 21).once(rt, m, 27, 27, true)?;
+    Case::new("case-35", 12, 286).once(rt, m, 16, 11, false)?;
+    Case::new("case-43", 12, 286).once(rt, m, 16, 7, false)?;
+    Case::new("case-48", 12, 286).once(rt, m, 16, 14, false)?;
+    Case::new("case-48", 5, 22).once(rt, m, 16, 14, true)?;
+    Case::new("case-01", 6, 154).once(rt, m, 4, 0, false)?;
+    Case::new("case-01", 6, 154).once(rt, m, 4, 0, true)?;
+    Case::new("case-01", 6, 154).once(rt, m, 0, 1, true)
 }
 
 pub fn turns(rt: &HostRuntime) -> io::Result<()> {
     single_turns(rt, Store::fresh())?;
     for cut in 0..28 {
-        read_in_two(rt, cut, Lent::new(12, 286))?;
+        Case::new("case-06", 12, 286).read_in_two(rt, cut)?;
     }
-    read_in_two(rt, 20, Lent::new(6, 154))?;
+    Case::new("case-06", 6, 154).read_in_two(rt, 20)?;
     println!(rt; "last transaction number 60001")?;
     let m = unsound();
-    once(rt, m, "case-00", 25, 25, false, Lent::new(24, 550))?;
-    once(rt, m, "case-01", 4, 0, true, Lent::new(6, 154))?;
-    once(rt, m, "case-00", 25, 25, false, Lent::new(24, 549))
+    Case::new("case-00", 24, 550).once(rt, m, 25, 25, false)?;
+    Case::new("case-01", 6, 154).once(rt, m, 4, 0, true)?;
+    Case::new("case-00", 24, 549).once(rt, m, 25, 25, false)
 }
