@@ -15,8 +15,8 @@ fn show_call(rt: &impl Print, call: Call) -> io::Result<()> {
     )
 }
 
-// What stands at a place; the place after it, where it is a call. Errors are printed as C's numbers for them: `Display` would need a wrapper for each enum, of
-// another crate, for two numbers.
+// What stands at a place; the place after it, where it is a call. Errors are printed as the codes that a file is refused with: their enums are
+// of other crates, so `Display` would need a wrapper for each, for two numbers.
 fn show_read(rt: &impl Print, name: &str, input: &[u8], place: usize) -> io::Result<usize> {
     print!(rt; "read_call {name} at {place}: ")?;
     match monitor::read_call(input, place) {
