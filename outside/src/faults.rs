@@ -221,16 +221,20 @@ mod tests {
         calls.iter().copied().zip(answers.iter().copied()).collect()
     }
 
-    /// An edit of the list of refusals, by which no call is answered otherwise.
-    const NO_ANSWER: &str = "later_numbers_no_refusals.edit";
+    /// An edit of the list of refusals, by which no call is answered otherwise,
+    /// and one of the code's number for a reason, which is no wrong rule.
+    const NO_RULE: [&str; 2] = [
+        "later_numbers_no_refusals.edit",
+        "no_reply_numbered_as_empty_take.edit",
+    ];
 
-    /// Each edit of the rules but that one is a fault here.
+    /// Each edit of the rules but those is a fault here.
     #[test]
     fn faults_are_the_edits() {
         let mut edits: Vec<String> = read_dir(format!("{CRATES}/rules/must-fail"))
             .unwrap()
             .map(|file| file.unwrap().file_name().into_string().unwrap())
-            .filter(|edit| edit != NO_ANSWER)
+            .filter(|edit| !NO_RULE.contains(&edit.as_str()))
             .collect();
         edits.sort();
         let faults = Fault::ALL.iter().map(|fault| fault.edit() + ".edit");
