@@ -223,9 +223,13 @@ mod tests {
 
     /// An edit of the list of refusals, by which no call is answered otherwise,
     /// and one of the code's number for a reason, which is no wrong rule.
-    const NO_RULE: [&str; 2] = [
+    const NO_RULE: [&str; 6] = [
+        "call_numbers_exchanged.edit",
         "later_numbers_no_refusals.edit",
+        "no_reply_by_second_flag.edit",
         "no_reply_numbered_as_empty_take.edit",
+        "no_tran_by_first_flag.edit",
+        "service_64_is_none.edit",
     ];
 
     /// Each edit of the rules but those is a fault here.

@@ -29,7 +29,7 @@ pub fn working() -> Link {
 }
 
 // A request of party 2's that party 1 served.
-pub fn returned() -> Link {
+fn returned() -> Link {
     Link {
         number: 5,
         originator: 2,
@@ -56,7 +56,7 @@ fn owner() -> Party {
 }
 
 // Party 1 serves link 4.
-pub fn server() -> Party {
+fn server() -> Party {
     Party {
         opened: 1,
         services: 4,

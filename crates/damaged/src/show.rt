@@ -7,7 +7,7 @@ use monitor::Store;
 use rules::{Call, Monitor};
 use std::{fmt, io};
 
-// One call: at clock 7 party 0 asks for the transaction information.
+// One call, in six numbers as a host in C lends it: at clock 7 party 0 asks for the transaction information.
 const CALLS: [u32; 6] = [7, 0, 6, 0, 0, 0];
 
 // A code, or what stands in an answer place.
@@ -29,7 +29,7 @@ fn kept(before: Store, after: Store) -> &'static str {
     if before == after { "kept" } else { "changed" }
 }
 
-// A party's call at clock 7.
+// A party's call at clock 7. Kinds are numbers, as a host gives them: one that there is not must be asked for, too.
 fn call(party: u32, kind: u32, a: u32, b: u32) -> Call {
     Call {
         clock: 7,
@@ -61,6 +61,7 @@ fn show_list(out: &impl Print, m: Store, calls: &[u32], places: usize) -> io::Re
     )
 }
 
+// A record: what a call of the kind 6 and one of no kind answer, and two lists.
 pub fn show(out: &impl Print, name: &str, record: Monitor) -> io::Result<()> {
     let m = stored(record);
     print!(out; "{name}: step ")?;
@@ -72,6 +73,19 @@ pub fn show(out: &impl Print, name: &str, record: Monitor) -> io::Result<()> {
     print!(out; ", empty list ")?;
     show_list(out, m, &[], 6)?;
     println!(out)
+}
+
+// The sound record after some damage.
+pub fn show_damage<F: FnOnce(&mut Monitor)>(
+    out: &impl Print,
+    name: &str,
+    damage: F,
+) -> io::Result<()>
+    requires { F.IsAlwaysCallable damage }
+{
+    let mut m = base();
+    damage(&mut m);
+    show(out, name, m)
 }
 
 // A list that has too few answer places.

@@ -1,8 +1,11 @@
 // A record as the words that a host lends: 4 of the head, 18 of each party, 19 of each link, a number of 64 bits as two, the low half first.
+// Neither a party nor an array of words is this crate's, so functions make these words, and no `From`. They are made apart from the crate monitor, so that a
+// wrong place there shows.
 use monitor::Store;
 use rules::{Link, Monitor, Party};
 
-// The low half of a number. `monitor` has the like of this and of `high`, private there: its public ones would need contracts and callers outside.
+// The low half of a number. `monitor` has the like of this and of `high`, private there: its public ones would need contracts and callers outside. By `as`:
+// of the half that is left, `try_from` would ask what cannot fail.
 fn low(x: u64) -> u32 {
     (x & 0xffff_ffff) as u32
 }
@@ -65,7 +68,8 @@ pub fn stored(m: Monitor) -> Store {
     s.words[0] = m.clock;
     s.words[1] = m.lastlink;
     s.words[2] = m.lasttx;
-    s.words[3] = (m.count & 0xffff_ffff) as u32;
+    // by `as`: Rust has no `From` between usize and 64 bits
+    s.words[3] = low(m.count as u64);
     let (parties, _) = s.words[4..292].as_chunks_mut::<18>();
     for (places, q) in parties.iter_mut().zip(&m.parties) {
         *places = party_words(*q);

@@ -5,7 +5,6 @@
 mod spent;
 
 use monitor::Store;
-use std::rt::Files;
 use std::{fs, io};
 
 // The files that are listed once all numbers are used up.
@@ -15,33 +14,29 @@ const SPENT: [&str; 11] = [
 ];
 
 // Lists a case, or gives why there is none of that number.
-fn list_case<R: Files + Print + AllocGlobal>(
-    rt: &R,
-    errors: &impl Print,
-    case: usize,
-) -> io::Result<()> {
+fn list_case(rt: &HostRuntime, case: usize) -> io::Result<()> {
     let name = format!(in rt.alloc(); "case-{case:02}")?;
     let mut file = fs::open(rt, name.as_str())?;
     let _ = rt.println(name.as_str());
-    drill_io::list_all(&mut file, rt, errors, b"drill_cases");
+    drill_io::list_all(&mut file, rt, &rt.stderr(), b"drill_cases");
     Ok(())
 }
 
-fn list_cases<R: Files + Print + AllocGlobal>(rt: &R, errors: &impl Print) {
+// Lists the cases, and gives why the first that is missing is.
+fn list_cases(rt: &HostRuntime) -> io::Result<()> {
     for case in 0..100 {
-        if list_case(rt, errors, case).is_err() {
-            return;
-        }
+        list_case(rt, case)?;
     }
+    Ok(())
 }
 
 fn main(rt: HostRuntime) {
-    let errors = rt.stderr();
-    list_cases(&rt, &errors);
-    let begun = spent::run_stored(&rt, &errors, Store::fresh(), "spent-a", 1);
-    let linked = spent::run_stored(&rt, &errors, begun, "spent-b", 1875);
-    let all = spent::run_stored(&rt, &errors, linked, "spent-c", 14531);
+    let _missing = list_cases(&rt);
+    let begun = spent::run_stored(&rt, Store::fresh(), "spent-a", 1);
+    // spent-b takes 32 link numbers and a transaction number each time, spent-c four transaction numbers, until both are at 60,000.
+    let linked = spent::run_stored(&rt, begun, "spent-b", 1875);
+    let all = spent::run_stored(&rt, linked, "spent-c", 14531);
     for name in SPENT {
-        spent::list_stored(&rt, &errors, all, name);
+        spent::list_stored(&rt, all, name);
     }
 }

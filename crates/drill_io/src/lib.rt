@@ -11,8 +11,9 @@ use monitor::Store;
 use std::io::Read;
 pub use told::Failure;
 
-// What waits in the input's buffer: how many bytes, and whether the input ended there.
-#[derive(Clone, Copy)]
+// What waits in the input's buffer: how many bytes, and whether the input ended there, which is a fact about the file. The bytes are counted, and no slice of
+// the buffer, since the next read goes into it; and the buffer is no field, since a turn of `listing` is lent it beside the count. By default nothing waits.
+#[derive(Clone, Copy, Default)]
 pub struct Waiting {
     pub count: usize,
     pub ended: bool,
@@ -30,7 +31,7 @@ impl Waiting {
         if input.len() <= self.count {
             return Ok(Waiting {
                 count: input.len(),
-                ended: self.ended,
+                ..self
             });
         }
         if self.ended {
@@ -60,10 +61,7 @@ impl State {
     {
         State {
             store: Store::fresh(),
-            waiting: Waiting {
-                count: 0,
-                ended: false,
-            },
+            waiting: Waiting::default(),
         }
     }
 
@@ -85,34 +83,39 @@ impl State {
     }
 }
 
-// The buffers of a turn: the input's, places for 496 answers, and room for their lines.
+// The input's buffer and the text's.
+const ROOM: usize = 65536;
+
+// The answer places of 496 calls, whose lines the text's buffer has room for. They lie six by six, as a host in C lends them.
+const PLACES: usize = 2976;
+
+// The buffers of a turn, of fixed size, since memory is fixed.
 #[derive(Drop)]
 struct Buffers {
-    input: [u8; 65536],
-    answers: [i64; 2976],
-    output: [u8; 65536],
-    ghost input_length: { length input ≡ 65536 },
-    ghost places: { length answers ≡ 2976 },
+    input: [u8; ROOM],
+    answers: [i64; PLACES],
+    output: [u8; ROOM],
 }
 
 impl Buffers {
     fn new() -> Self {
         Buffers {
-            input: [0; 65536],
-            answers: [0; 2976],
-            output: [0; 65536],
+            input: [0; ROOM],
+            answers: [0; PLACES],
+            output: [0; ROOM],
         }
     }
 
     // One turn: reads, has the calls that are whole run and listed, and writes their lines. Where the file goes on there is room for the next read.
+    #[tactic(auto, using(listing::proofs::Turns::turn_fits, listing::proofs::Turns::turn_leaves_room, crate::proofs::Room::room_after))]
     fn turn<R: Read>(
         &mut self,
         source: &mut R,
         out: &impl Print,
         state: State,
     ) -> Result<Option<State>, Failure>
-        requires { state.waiting.count < 65536 }
-        ensures { IfOk result (λ next. IfSome next (λ s. s.waiting.count < 65536)) }
+        requires { state.waiting.count < ROOM }
+        ensures { IfOk result (λ next. IfSome next (λ s. s.waiting.count < ROOM)) }
     {
         let waiting = state.waiting.receive(source, &mut self.input)?;
         let turned = listing::list_turn(
@@ -133,6 +136,7 @@ impl Buffers {
 fn list<R: Read>(source: &mut R, out: &impl Print) -> Result<(), Failure> {
     let mut buffers = Buffers::new();
     let mut state = State::fresh();
+    // Counted, since each loop has to end, and how many turns there are the input tells.
     for _ in 0..u64::MAX {
         let Some(next) = buffers.turn(source, out, state)? else {
             return Ok(());

@@ -29,8 +29,9 @@ fn wait<R: Read>(source: &mut R, input: &mut [u8], waiting: Waiting) -> Result<W
     waiting.receive(source, input)
 }
 
-// One turn: has the call at the front run and listed, and writes its line. With six answer places there is one call to a turn, and its text, with a
-// refusal behind it, takes at most 154 bytes. Where the file goes on there is room for the next read.
+// One turn: has the call at the front run and listed, and writes its line. With six answer places, as a host in C lends them, there is one call to a turn, and
+// its text, with a refusal behind it, takes at most 154 bytes. A call takes at most 30, so where the file goes on there is room for the next read. The input's
+// buffer is lent beside the state, as `Waiting` says.
 fn turn<R: Read>(
     source: &mut R,
     out: &impl Print,
@@ -42,10 +43,8 @@ fn turn<R: Read>(
     ensures { IfOk result (λ next. IfSome next (λ s. s.waiting.count < length input.old)) }
 {
     let waiting = wait(source, input, state.waiting)?;
-    let call = match monitor::read_call(&input[..waiting.count], 0) {
-        Ok(Some((call, _))) => Some(call),
-        _ => None,
-    };
+    let read = monitor::read_call(&input[..waiting.count], 0);
+    let call = read.ok().flatten().map(|(call, _)| call);
     let mut answers = [0; 6];
     let mut lines = [0; 154];
     let turned = listing::list_turn(
@@ -66,6 +65,7 @@ fn turn<R: Read>(
 fn list<R: Read>(source: &mut R, out: &impl Print) -> Result<(), Failure> {
     let mut input = [0; 4096];
     let mut state = State::fresh();
+    // Counted, since each loop has to end, and how many turns there are the input tells.
     for _ in 0..u64::MAX {
         let Some(next) = turn(source, out, state, &mut input)? else {
             return Ok(());

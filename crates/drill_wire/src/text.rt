@@ -6,7 +6,8 @@ use rules::{Answer, Call};
 use std::io;
 use std::num::TryFromIntError;
 
-// The answer in six places. All but the code are of 32 bits.
+// The answer in six places, where a host in C has it. All but the code are of 32 bits. One program reads answers so: `TryFrom` would stand in `rules`, public
+// and with a contract of its own.
 fn answer_in(places: [i64; 6]) -> Result<Answer, TryFromIntError> {
     let [code, value, event, token, service, tx] = places;
     Ok(Answer {

@@ -1,6 +1,5 @@
 -- Bytes as text.
-use Rattle.std.specs.Prelude.{ℕ, ◌-◌, ◌^◌, false, List, [], ◌∷◌}
-use Rattle.std.specs.List.{flat_map}
+use Rattle.std.specs.Prelude.{ℕ, ◌-◌, ◌^◌, false, List, [], ◌∷◌, flat_map}
 use Rattle.std.specs.Fmt.{digits, format_spec, padded_integral}
 
 -- a space, and the hex digits in lower case, at least two: `hex_byte` of std says which two they are

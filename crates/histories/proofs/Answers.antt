@@ -1,13 +1,7 @@
 -- The rules answer each history as the outside implementation did: run as a lent list on a fresh monitor, its calls get the answers of its rows.
 -- One test is computed over the table, and the law of tables turns it into the facts of each entry.
 -- Assumes nothing.
-use mathlib.Core.Path.{◌≡◌, refl}
-use mathlib.Core.Bool.{Bool, true, ◌&&◌}
-use mathlib.Core.List.{List, []}
-use Prim.Native.Nat.{ℕ, ◌<◌}
-use native.Mathlib.Omega.{arith}
-use lib.IntN.{pos}
-use lib.ListN.{length, get_or, replicate}
+use Rattle.std.proofs.Common.{◌≡◌, refl, Bool, true, ◌&&◌, List, [], ℕ, ◌<◌, arith, pos, length, get_or, replicate}
 use Rattle.rules.specs.Choice.{pick, same}
 use Rattle.rules.specs.Codes.{no_begin}
 use Rattle.rules.specs.Lists.{first_of, any_of, collect}

@@ -1,7 +1,6 @@
 -- Conversations: histories whose answers the outside implementation made, and the same ones altered, spoilt or harmless.
 -- Assumes nothing.
-use mathlib.Core.List.{List, [], ◌∷◌}
-use lib.IntN.{pos, negsuc}
+use Rattle.std.proofs.Common.{List, [], ◌∷◌, pos, negsuc}
 use Rattle.histories.proofs.Rows.{Row, row, placed, coded, showing, asked, without, unanswered, value_field, event_field, party_field}
 use Rattle.histories.proofs.Rows.{kind_field, a_field, sender, commit, alone, Spoilt, breaks, tx_open, tx_begin, tx_commit, tpadvertise}
 use Rattle.histories.proofs.Rows.{tpconnect, dispatch, tpcancel, tpsend, tprecv, tpdiscon, tpreturn, terminate}

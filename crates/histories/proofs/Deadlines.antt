@@ -1,7 +1,6 @@
 -- Timeouts, deadlines and chained transactions: histories whose answers the outside implementation made, and the same ones altered, spoilt or harmless.
 -- Assumes nothing.
-use mathlib.Core.List.{List, [], ◌∷◌}
-use lib.IntN.{pos, negsuc}
+use Rattle.std.proofs.Common.{List, [], ◌∷◌, pos, negsuc}
 use Rattle.histories.proofs.Rows.{Row, row, coded, without, commit, Spoilt, breaks, tx_open, tx_close, tx_begin, tx_commit, tx_rollback, tx_info}
 use Rattle.histories.proofs.Rows.{tx_set_control, tx_set_timeout, tpadvertise, tpacall, dispatch, tpgetrply, tpreturn, terminate, no_kind}
 

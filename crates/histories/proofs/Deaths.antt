@@ -1,8 +1,7 @@
 -- A service that dies during a booking, after its caller has disconnected or before: histories whose answers the outside implementation made, and the same
 -- ones altered, spoilt or harmless. The drill files case-49 to case-51 of crates/drill_cases have their calls.
 -- Assumes nothing.
-use mathlib.Core.List.{List, [], ◌∷◌}
-use lib.IntN.{pos, negsuc}
+use Rattle.std.proofs.Common.{List, [], ◌∷◌, pos, negsuc}
 use Rattle.histories.proofs.Rows.{Row, row, coded, showing, commit, Spoilt, breaks, value_field, tx_open, tx_begin}
 use Rattle.histories.proofs.Rows.{tx_commit, tpadvertise, tpconnect, dispatch, tpsend, tpdiscon, terminate}
 

@@ -2,8 +2,7 @@
 -- The outside implementation made the answers, with that fault planted, each history as one lent list; the names are the edits'.
 -- Its program `faulty` prints them; where that is another fault's list too, one with another reason stands here.
 -- Assumes nothing.
-use mathlib.Core.List.{List, [], ◌∷◌}
-use lib.IntN.{pos, negsuc}
+use Rattle.std.proofs.Common.{List, [], ◌∷◌, pos, negsuc}
 use Rattle.histories.proofs.Rows.{Row, row, sender, commit, Spoilt, breaks, tx_open, tx_begin, tx_commit, tx_set_timeout, tpadvertise}
 use Rattle.histories.proofs.Rows.{tpacall, tpconnect, dispatch, tpgetrply, tpsend, tprecv, tpdiscon, tpreturn, terminate, report}
 

@@ -1,7 +1,6 @@
 -- Transactions of several owners: histories whose answers the outside implementation made, and the same ones altered, spoilt or harmless.
 -- Assumes nothing.
-use mathlib.Core.List.{List, [], ◌∷◌}
-use lib.IntN.{pos, negsuc}
+use Rattle.std.proofs.Common.{List, [], ◌∷◌, pos, negsuc}
 use Rattle.histories.proofs.Rows.{Row, row, coded, asked, without, unanswered, party_field, commit, alone, Spoilt, breaks}
 use Rattle.histories.proofs.Rows.{tx_open, tx_begin, tx_commit, tpadvertise, tpacall, dispatch, tpgetrply, tpreturn}
 

@@ -1,7 +1,6 @@
 -- Fetches of whichever reply is there: histories, written by hand and answered so by the outside implementation, and the same ones altered, spoilt or harmless.
 -- Assumes nothing.
-use mathlib.Core.List.{List, [], ◌∷◌}
-use lib.IntN.{pos, negsuc}
+use Rattle.std.proofs.Common.{List, [], ◌∷◌, pos, negsuc}
 use Rattle.histories.proofs.Rows.{Row, row, coded, showing, asked, without, value_field, a_field, b_field}
 use Rattle.histories.proofs.Rows.{commit, Spoilt, breaks, tx_open, tx_begin, tx_commit, tpadvertise}
 use Rattle.histories.proofs.Rows.{tpacall, dispatch, tpgetrply, tpreturn}

@@ -1,10 +1,6 @@
 -- A history as rows, each a call and its answer; how a row is altered; and which rule of the statement that breaks.
 -- Assumes nothing.
-use mathlib.Core.List.{List, [], ◌∷◌, ◌++◌}
-use mathlib.Core.Bool.{Bool, true, not, ◌&&◌}
-use Prim.Native.Nat.{ℕ, zero, suc}
-use lib.IntN.{ℤ, pos}
-use lib.ListN.{set, take, drop}
+use Rattle.std.proofs.Common.{List, [], ◌∷◌, ◌++◌, Bool, true, not, ◌&&◌, ℕ, zero, suc, ℤ, pos, set, take, drop}
 use Rattle.rules.specs.History.{Event, sender_rule, commit_rule, alone_rule, then_list}
 
 -- six numbers of a call and six places of its answer

@@ -1,7 +1,6 @@
 -- Requests and their services: histories whose answers the outside implementation made, and the same ones altered, spoilt or harmless.
 -- Assumes nothing.
-use mathlib.Core.List.{List, [], ◌∷◌}
-use lib.IntN.{pos, negsuc}
+use Rattle.std.proofs.Common.{List, [], ◌∷◌, pos, negsuc}
 use Rattle.histories.proofs.Rows.{Row, row, coded, showing, asked, without, value_field, tx_field, party_field, b_field}
 use Rattle.histories.proofs.Rows.{commit, alone, Spoilt, breaks, tx_open, tx_begin, tx_commit, tx_rollback, tpadvertise}
 use Rattle.histories.proofs.Rows.{tpacall, dispatch, tpgetrply, tpcancel, tpreturn, terminate}

@@ -1,11 +1,7 @@
 -- The history statement, computed: it holds of each history that the outside implementation answered and of each harmless one, and of no spoilt or faulty one.
 -- One test is computed over each table, and the law of tables turns it into the facts of each entry.
 -- Assumes nothing.
-use mathlib.Core.Path.{◌≡◌, refl}
-use mathlib.Core.List.{List, [], ◌++◌}
-use mathlib.Core.Bool.{Bool, true, not, ◌&&◌}
-use Prim.Native.Nat.{ℕ, ◌<◌}
-use lib.ListN.{length, get_or}
+use Rattle.std.proofs.Common.{◌≡◌, refl, List, [], ◌++◌, Bool, true, not, ◌&&◌, ℕ, ◌<◌, length, get_or}
 use Rattle.rules.specs.History.{some, of_kind, by, answered_by, with_value, with_event, past21, accepted, replied, link_on, on, is_send, different_ends}
 use Rattle.rules.specs.History.{given_send_only, sends_apart, ends_in, up_to_start, started_by, shown_owner, latest_tx, is_owners_commit, committed, flag2}
 use Rattle.rules.specs.History.{makes, is_link_of, serves, failed_end, disconnect, greatest_clock, shown_timeout, timeout_at_start, due, deadline_passed}

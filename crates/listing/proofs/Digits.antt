@@ -27,6 +27,9 @@ decimal_last n h = decimal_is n (omega arith) ∙ decimal_digit n h
 pub decimal_more : (n : ℕ) → 10 ≤ n → n < 2 ^ 64 → decimal n ≡ decimal (n / 10) ++ ((48 + n % 10) ∷ [])
 decimal_more n h k = decimal_is n k ∙ decimal_step n h k ∙ ap (λ (l : List ℕ). l ++ ((48 + n % 10) ∷ [])) (sym (decimal_is (n / 10) (omega arith)))
 
+pub decimal_longer : (n : ℕ) → 10 ≤ n → n < 2 ^ 64 → length (decimal n) ≡ length (decimal (n / 10)) + 1
+decimal_longer n h k = simp length-append at (ap length (decimal_more n h k))
+
 digits_short : (most n : ℕ) → length (digits_of most n) ≤ most
 unfolding digits_of
 digits_short zero n = omega arith

@@ -1,7 +1,7 @@
 -- Laws of a piece that is run and listed.
 -- Assumes nothing.
 use Rattle.std.proofs.Common.{drop, ◌++◌, ℕ, ◌+◌, ◌*◌, ◌/◌, ◌≤◌, ◌<◌, ◌≡◌, ap, sym, ◌∙◌, subst, Bool, List, arith, le-leb, leb-true, ℤ, length, length-append}
-use borrow.Author.Tests.{lt-leb}
+use Rattle.std.proofs.lemmas.Bool.{lt-leb}
 use Rattle.std.proofs.Math.Seq.{sets-eq}
 use Rattle.rules.specs.Codes.{too_little_room}
 use Rattle.rules.specs.declared.Monitor.{Monitor}

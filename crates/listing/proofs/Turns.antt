@@ -1,7 +1,7 @@
 -- Laws of a turn of the drill program.
 -- Assumes nothing.
 use Rattle.std.proofs.Common.{◌&&◌, ℕ, zero, suc, ◌-◌, ◌≤◌, ◌<◌, min, ◌≡◌, refl, ap, sym, ◌∙◌, subst, ⊎_elim, Bool, true, false, List, arith, eqb, leb, ℤ, pos, negsuc, length, take, drop, length-take, length-drop, length-take-le}
-use Rattle.std.proofs.lemmas.Grind.{common_steps}
+use Rattle.std.proofs.lemmas.List.{take_min}
 use Rattle.rules.specs.Choice.{pick}
 use Rattle.rules.specs.declared.Monitor.{Monitor}
 use Rattle.rules.proofs.Logic.{by_test, not_both}
@@ -27,9 +27,6 @@ over_open true code left e = ap (λ (z : ℤ). is_over true z left) (sym e)
 over_open false code left e = ap (λ (z : ℤ). is_over false z left) (sym e)
 
 -- ---- the turn
-
-take_min : (count : ℕ) (input : List ℕ) → take (min count (length input)) input ≡ take count input
-take_min count input = grind (arith, common_steps)
 
 -- the piece that the bytes in hand make was run and listed, what it leaves was moved, and the end was looked for
 module _ (m : Monitor) (input : List ℕ) (count held : ℕ) (ended : Bool) (answers : List ℤ) (out : List ℕ) (h : held ≡ min count (length input)) where

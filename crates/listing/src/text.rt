@@ -7,6 +7,8 @@ ghost use Rattle.listing.specs.Text.{sign, decimal, field, lines_of, refusal_lin
 use rules::codes;
 
 // A number's decimal digits. Tried in Rust, and slower: with the crate `itoa` a line takes half as long again, with `write!` over four times as long.
+// A digit is widened and narrowed by `as`, which is proved to lose nothing; `try_from` would ask what to put for a digit that is no byte.
+#[tactic(auto, using(crate::proofs::Digits::decimal_last, crate::proofs::Digits::decimal_more, crate::proofs::Digits::decimal_longer, crate::proofs::Puts::puts_none, crate::proofs::Puts::puts_byte))]
 fn put_digits(out: &mut [u8], at: usize, n: u64) -> usize
     requires { at + length (decimal n) ≤ length out.old }
     ensures { Puts out.old at (decimal n) out.new result }
@@ -21,6 +23,7 @@ fn put_digits(out: &mut [u8], at: usize, n: u64) -> usize
 }
 
 // A minus in front of a negative number.
+#[tactic(auto, using(crate::proofs::Digits::sign_some, crate::proofs::Digits::sign_none, crate::proofs::Puts::puts_none, crate::proofs::Puts::puts_byte))]
 fn put_sign(out: &mut [u8], at: usize, n: i64) -> usize
     requires { at < length out.old }
     ensures { Puts out.old at (sign n) out.new result }
@@ -33,6 +36,7 @@ fn put_sign(out: &mut [u8], at: usize, n: i64) -> usize
 }
 
 // A number, and the byte after it.
+#[tactic(auto, using(crate::proofs::Digits::sign_short, crate::proofs::Digits::decimal_short))]
 fn put_field(out: &mut [u8], at: usize, n: i64, after: u8) -> usize
     requires { at + 22 ≤ length out.old }
     ensures { Puts out.old at (field n after) out.new result }
@@ -44,6 +48,7 @@ fn put_field(out: &mut [u8], at: usize, n: i64, after: u8) -> usize
 }
 
 // The lines of the answers, from the front of the buffer on: six on a line, one space between, a line feed at the end.
+#[tactic(auto, using(crate::proofs::Puts::puts_none), unfolding(crate::specs::Text::lines_of, crate::proofs::Digits::fields_of))]
 pub(crate) fn put_lines(out: &mut [u8], answers: &[i64]) -> usize
     requires { length answers.now / 6 * 132 ≤ length out.old }
     ensures { Puts out.old 0 (lines_of (length answers.now / 6) answers.now) out.new result }
@@ -60,6 +65,7 @@ pub(crate) fn put_lines(out: &mut [u8], answers: &[i64]) -> usize
 }
 
 // A refusal's number alone on a line, or nothing for 0.
+#[tactic(auto, using(crate::proofs::Digits::refusal_none, crate::proofs::Digits::refusal_some, crate::proofs::Puts::puts_none))]
 pub(crate) fn put_refusal(out: &mut [u8], at: usize, code: i64) -> usize
     requires { at + 22 ≤ length out.old }
     ensures { Puts out.old at (refusal_line code) out.new result }

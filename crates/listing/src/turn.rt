@@ -22,6 +22,7 @@ fn keep_rest(buffer: &mut [u8], used: usize, count: usize) -> usize
 }
 
 // Is the file over? After a refusal, and where the input has ended and nothing is left.
+#[tactic(auto, using(crate::proofs::Turns::over_refused, crate::proofs::Turns::over_open))]
 fn is_over(ended: bool, code: i64, left: usize) -> bool
     ensures { result ≡ is_over ended code left }
 {
@@ -29,7 +30,7 @@ fn is_over(ended: bool, code: i64, left: usize) -> bool
 }
 
 // What a turn gives: the record after it, how many bytes are kept at the front of the input's buffer, how many bytes of text there are, and whether the
-// file is over.
+// file is over, which stands beside values that hold either way. Both counts are of lent buffers, of which the contract tells the rest, too.
 #[derive(Clone, Copy)]
 pub struct Turned {
     pub store: Store,
@@ -39,7 +40,8 @@ pub struct Turned {
 }
 
 // Runs the whole calls of the first `count` bytes, as many as there are answer places for, lists their answers, and keeps the bytes that they did not take;
-// `ended` says that the input ends with those bytes.
+// `ended` says that the input ends with those bytes. A count stands beside the whole buffer, and no slice of it: a caller may count more than it holds, and
+// then all of it is run. The two are `Waiting` in `drill_io`, whose method reads and must stand beside its struct; here nothing is read.
 pub fn list_turn(
     m: Store,
     input: &mut [u8],

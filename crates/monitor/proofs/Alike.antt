@@ -1,15 +1,8 @@
 -- Two lists that are alike place by place.
 -- Assumes nothing.
-use mathlib.Core.Path.{◌≡◌, refl, ap, ◌∙◌, sym}
-use mathlib.Core.List.{List, [], ◌∷◌}
-use mathlib.Core.Bool.{Bool, true, ◌&&◌}
-use Prim.Native.Nat.{ℕ, zero, suc, ◌+◌, ◌≤◌}
-use native.Mathlib.Nat.{le_of_suc-le-suc, not-suc-le-zero}
-use native.Mathlib.Numerals.{add-one}
-use lib.Dec.{eqb}
-use lib.ListN.{length, take, get_or}
+use Rattle.std.proofs.Common.{◌≡◌, refl, ap, ◌∙◌, sym, List, [], ◌∷◌, Bool, true, ◌&&◌, ℕ, zero, suc, ◌+◌, ◌≤◌}
+use Rattle.std.proofs.Common.{le_of_suc-le-suc, not-suc-le-zero, add-one, eqb, length, take, get_or, eq-eqb}
 use lib.Pointwise.{pointwise}
-use borrow.Author.Tests.{eq-eqb}
 use Rattle.std.specs.List.{list_all, range_with_len}
 use Rattle.rules.specs.Choice.{same}
 use Rattle.rules.specs.Equal.{all_same, same_party}

@@ -1,32 +1,29 @@
 -- Laws of a drill file's calls: what holds before each turn of the loop over a call's six numbers, and where a call ends.
 -- Assumes nothing.
-use Prim.Native.Nat.{ℕ, zero, suc, ◌+◌, ◌-◌, ◌*◌, ◌/◌, ◌^◌, ◌≤◌, ◌<◌}
-use mathlib.Core.Path.{◌≡◌, refl, ap, sym, ◌∙◌, subst}
-use mathlib.Core.Logic.{⊎_elim}
-use mathlib.Core.Bool.{Bool, true}
-use mathlib.Core.List.{List, [], ◌∷◌, ◌++◌, append_assoc, append-nil}
-use native.Mathlib.Numerals.{add-one}
-use native.Mathlib.Omega.{arith}
-use borrow.Author.Tests.{lt-ltb, le-ltb, le-leb, lt-leb}
-use lib.Dec.{leb}
-use native.Mathlib.Nat.{add-zero}
-use lib.IntN.{ℤ}
-use lib.ListN.{length, take, drop, set, length-set, length-append, length-drop, take-append-drop}
-use lib.Seq.{take-suc-set, take_all, length-take-le, take_at, drop_at, drop-drop}
+use Rattle.std.proofs.Common.{ℕ, zero, suc, ◌+◌, ◌-◌, ◌*◌, ◌/◌, ◌^◌, ◌≤◌, ◌<◌, ◌≡◌, refl, ap, sym, ◌∙◌, subst, ⊎_elim, Bool, true}
+use Rattle.std.proofs.Common.{List, [], ◌∷◌, ◌++◌, append_assoc, append-nil, add-one, arith, lt-ltb, le-ltb, add-zero}
+use Rattle.std.proofs.Common.{ℤ, length, take, drop, set, length-set, length-append, length-drop, take-append-drop, take-suc-set}
+use Rattle.std.proofs.Common.{take_all, length-take-le, take_at, drop_at, drop-drop, Option, Result, Ok, Err, Some, None}
 use Rattle.number.specs.Reader.{number, refused, read_number}
 use Rattle.number.specs.Numbers.{Numbers, numbers, stopped, ahead, read_numbers}
 use Rattle.number.proofs.Reading.{below_or_not, number_after, number_within, one_of_three}
 use Rattle.number.proofs.Successive.{ahead_none, ahead_ahead, ahead_read, one_more, no_more}
 use Rattle.rules.specs.Run.{call_at, places_of, ran_of, answers_of}
-use Rattle.rules.specs.Codes.{too_little_room}
+use Rattle.rules.specs.Choice.{pick}
+use Rattle.rules.specs.Codes.{file_run, cut_short, malformed}
 use Rattle.rules.specs.Sound.{sound}
 use Rattle.rules.specs.Step.{call_of}
+use Rattle.rules.specs.declared.Answer.{Answer}
 use Rattle.rules.specs.declared.Call.{Call}
 use Rattle.rules.specs.declared.Stepped.{Stepped}
 use Rattle.rules.specs.declared.Monitor.{Monitor}
-use Rattle.monitor.specs.File.{CallReading, called, nothing}
+use Rattle.number.specs.declared.reader.ReadError.{ReadError}
+use Rattle.number.specs.declared.reader.ReadError.TheVariants.{CutShort, Malformed}
+use Rattle.number.specs.Answers.{decoded}
+use Rattle.monitor.specs.File.{CallReading, called, nothing, found}
 use Rattle.monitor.specs.File.{broken, as_call, read_call, Calls, no_calls, with_call, further, calls_from, code_at, Passed}
-use Rattle.monitor.specs.File.{passed, after_calls, file_calls, piece_run, piece_of, file_of}
+use Rattle.monitor.specs.File.{passed, after_calls, file_calls, piece_of}
+use Rattle.monitor.specs.View.{stepped}
 use Rattle.rules.proofs.Logic.{pick_true, pick_false, by_test}
 
 -- ---- numbers one after the other
@@ -37,14 +34,14 @@ pub record Reads (told : Numbers) (input values : List ℕ) (at i : ℕ) : Type 
   pub long : length values ≡ 6
   pub tells : told ≡ ahead (take i values) (read_numbers (6 - i) input at)
 
-pub reads_none : (input values : List ℕ) (at : ℕ) → length values ≡ 6 → Reads (read_numbers 6 input at) input values at 0
-reads_none input values at l = record { few = omega arith; long = l; tells = sym (ahead_none _) }
+pub reads_none : (input : List ℕ) (at : ℕ) → Reads (read_numbers 6 input at) input (0 ∷ 0 ∷ 0 ∷ 0 ∷ 0 ∷ 0 ∷ []) at 0
+reads_none input at = record { few = omega arith; long = refl; tells = sym (ahead_none _) }
 
 module _ {told : Numbers} {input values : List ℕ} {at i : ℕ} (r : Reads told input values at i) where
   left : i < 6 → 6 - i ≡ suc (5 - i)
   left h = omega arith
 
-  pub reads_one : (value next : ℕ) → i < 6 → read_number 5 32 input at ≡ number value next → Reads told input (set values i value) next (i + 1)
+  pub reads_one : (value next : ℕ) → i < 6 → number value next ≡ read_number 5 32 input at → Reads told input (set values i value) next (i + 1)
   reads_one value next h e =
       record {
         few = omega arith;
@@ -52,7 +49,7 @@ module _ {told : Numbers} {input values : List ℕ} {at i : ℕ} (r : Reads told
         tells =
             r.tells
             ∙ ap (λ (n : ℕ). ahead (take i values) (read_numbers n input at)) (left h)
-            ∙ ap (ahead (take i values)) (one_more (5 - i) input at value next e)
+            ∙ ap (ahead (take i values)) (one_more (5 - i) input at value next (sym e))
             ∙ ahead_ahead (take i values) (value ∷ []) (read_numbers (5 - i) input next)
             ∙ ap (λ (l : List ℕ). ahead l (read_numbers (5 - i) input next)) (sym (take-suc-set values i value (omega (arith, r.long))))
             ∙ ap (λ (n : ℕ). ahead (take n (set values i value)) (read_numbers (5 - i) input next)) (sym (add-one i))
@@ -62,14 +59,14 @@ module _ {told : Numbers} {input values : List ℕ} {at i : ℕ} (r : Reads told
       fewer : i < 6 → 5 - i ≡ 6 - (i + 1)
       fewer h = omega arith
 
-  pub reads_stop : (code : ℕ) → i < 6 → read_number 5 32 input at ≡ refused code → told ≡ stopped code
+  reads_stop : (code : ℕ) → i < 6 → read_number 5 32 input at ≡ refused code → told ≡ stopped code
   unfolding ahead
   reads_stop code h e =
       r.tells
       ∙ ap (λ (n : ℕ). ahead (take i values) (read_numbers n input at)) (left h)
       ∙ ap (ahead (take i values)) (no_more (5 - i) input at code e)
 
-  pub reads_all : 6 ≤ i → told ≡ numbers values at
+  reads_all : 6 ≤ i → told ≡ numbers values at
   unfolding ahead read_numbers
   reads_all h =
       r.tells
@@ -90,6 +87,17 @@ module _ (input : List ℕ) (place : ℕ) where
   unfolding read_call
   call_some h = pick_true _ _ _ (lt-ltb _ _ h)
 
+-- a bad number decides what its call tells, and six numbers are the call
+module _ {input values : List ℕ} {place at i : ℕ} (r : Reads (read_numbers 6 input place) input values at i) (h : place < length input) where
+  pub call_stops : (e : ReadError) → i < 6 → decoded (Err e) ≡ read_number 5 32 input at → found (Err e) ≡ read_call input place
+  unfolding decoded found as_call
+  call_stops CutShort few e = sym (call_some input place h ∙ ap as_call (reads_stop r 17 few (sym e)))
+  call_stops Malformed few e = sym (call_some input place h ∙ ap as_call (reads_stop r 18 few (sym e)))
+
+  pub call_read : (c : Call) → 6 ≤ i → c ≡ call_at values → found (Ok (Some (c, at))) ≡ read_call input place
+  unfolding found as_call
+  call_read c few e = ap (λ (c : Call). called c at) e ∙ sym (call_some input place h ∙ ap as_call (reads_all r few))
+
 -- ---- where numbers and calls end
 
 pub numbers_end : (count : ℕ) (input : List ℕ) (place : ℕ) (values : List ℕ) (next : ℕ) → read_numbers count input place ≡ numbers values next
@@ -103,7 +111,7 @@ numbers_end (suc count) input place values next e =
     (one_of_three 5 32 input place)
   where
     gone : (code : ℕ) → read_number 5 32 input place ≡ refused code → (place + suc count ≤ next) × (place ≤ length input → next ≤ length input)
-    gone code r = let s = no_more count input place code r in let z : ◌≡◌ {A = ℕ} 0 1 = cc in absurd (omega arith)
+    gone code r = let s = no_more count input place code r in cc
 
     here :
         ((after : ℕ) (more : List ℕ) → read_numbers count input after ≡ numbers more next
@@ -119,13 +127,13 @@ numbers_end (suc count) input place values next e =
 module _ (input : List ℕ) (place : ℕ) (c : Call) (next : ℕ) (e : read_call input place ≡ called c next) where
   call_inside : place < length input
   call_inside =
-      ⊎_elim (λ h. h) (λ h. let s = call_none input place h in let z : ◌≡◌ {A = ℕ} 0 1 = cc in absurd (omega arith))
+      ⊎_elim (λ h. h) (λ h. let s = call_none input place h in cc)
       (below_or_not place (length input))
 
   called_numbers : (ns : Numbers) → as_call ns ≡ called c next → (values : List ℕ) × (ns ≡ numbers values next)
   unfolding as_call
   called_numbers (numbers values end) f = let same : end ≡ next = cc in (values, ap (numbers values) same)
-  called_numbers (stopped code) f = let z : ◌≡◌ {A = ℕ} 0 1 = cc in absurd (omega arith)
+  called_numbers (stopped code) f = cc
 
   six : (values : List ℕ) × (read_numbers 6 input place ≡ numbers values next)
   six = called_numbers (read_numbers 6 input place) (sym (call_some input place call_inside) ∙ e)
@@ -136,6 +144,21 @@ module _ (input : List ℕ) (place : ℕ) (c : Call) (next : ℕ) (e : read_call
 
   pub call_within : next ≤ length input
   call_within = (numbers_end 6 input place six.0 next six.1).1 (omega (arith, call_inside))
+
+-- what the code read: a call, or nothing
+module _ (input : List ℕ) (at : ℕ) (o : Option (Call × ℕ)) (e : found (Ok o) ≡ read_call input at) where
+  told_call : (c : Call) (next : ℕ) → o ≡ Some (c, next) → read_call input at ≡ called c next
+  unfolding found
+  told_call c next is = sym (rw is at e)
+
+  told_nothing : o ≡ None → read_call input at ≡ nothing
+  unfolding found
+  told_nothing is = sym (rw is at e)
+
+  pub call_shrinks : (c : Call) (next : ℕ) → o ≡ Some (c, next) → length input - next < length input - at
+  call_shrinks c next is =
+      let t : read_call input at ≡ called c next = told_call c next is in
+      omega (arith, call_after input at c next t, call_within input at c next t)
 
 -- ---- calls one after the other
 
@@ -155,6 +178,26 @@ unfolding calls_from further
 calls_broken zero input place code e = refl
 calls_broken (suc most) input place code e = ap (λ (r : CallReading). further r (calls_from most input) place) e
 
+told_broken : (e : ReadError) (most : ℕ) (input : List ℕ) (place : ℕ) → found (Err e) ≡ read_call input place → calls_from most input place ≡ no_calls place
+unfolding found
+told_broken CutShort most input place e = calls_broken most input place 17 (sym e)
+told_broken Malformed most input place e = calls_broken most input place 18 (sym e)
+
+-- What holds where no call is taken, and of a call with those after it, holds of the calls from a place on.
+module _ (input : List ℕ) (P : ℕ → ℕ → Calls → Type 0)
+    (none : (place : ℕ) → P 0 place (no_calls place))
+    (stop : (most place : ℕ) → ((n : ℕ) → calls_from n input place ≡ no_calls place) → P (suc most) place (no_calls place))
+    (one : (most place : ℕ) (c : Call) (next : ℕ) → read_call input place ≡ called c next → (w : Calls) → P most next w → P (suc most) place (with_call c w)) where
+  pub calls_by : (most place : ℕ) → P most place (calls_from most input place)
+  unfolding calls_from
+  calls_by zero place = none place
+  calls_by (suc most) place = go (calls_by most) (read_call input place) refl
+    where
+      go : ((next : ℕ) → P most next (calls_from most input next)) → (r : CallReading) → read_call input place ≡ r → P (suc most) place (calls_from (suc most) input place)
+      go rest (called c next) e = subst (P (suc most) place) (sym (calls_one most input place c next e)) (one most place c next e _ (rest next))
+      go rest nothing e = subst (P (suc most) place) (sym (calls_nothing (suc most) input place e)) (stop most place (λ n. calls_nothing n input place e))
+      go rest (broken code) e = subst (P (suc most) place) (sym (calls_broken (suc most) input place code e)) (stop most place (λ n. calls_broken n input place code e))
+
 -- ---- the loops over a file's calls
 
 less_none : (n : ℕ) → n ≡ n - 0
@@ -171,9 +214,10 @@ counts_none input =
     record { few = omega arith; within = omega arith; tells = omega (arith, ap (λ (f : ℕ). (calls_from f input 0).count) (less_none (length input))) }
 
 module _ {input : List ℕ} {at n : ℕ} (k : Counts input at n) where
-  pub counts_one : (c : Call) (next : ℕ) → read_call input at ≡ called c next → Counts input next (n + 1)
+  pub counts_one : (o : Option (Call × ℕ)) (c : Call) (next : ℕ) → found (Ok o) ≡ read_call input at → o ≡ Some (c, next) → Counts input next (n + 1)
   unfolding with_call
-  counts_one c next e =
+  counts_one o c next told is =
+      let e = told_call input at o told c next is in
       let past = call_after input at c next e in
       let inside = call_within input at c next e in
       let left : length input - n ≡ suc (length input - (n + 1)) = omega (arith, k.few) in
@@ -182,11 +226,14 @@ module _ {input : List ℕ} {at n : ℕ} (k : Counts input at n) where
       in
       record { few = omega (arith, k.few); within = inside; tells = omega (arith, k.tells) }
 
-  pub counts_nothing : read_call input at ≡ nothing → n ≡ (calls_from (length input) input 0).count
-  counts_nothing e = let z = ap (λ (w : Calls). w.count) (calls_nothing (length input - n) input at e) in omega (arith, k.tells)
+  counts_over : calls_from (length input - n) input at ≡ no_calls at → n ≡ (file_calls input).count
+  counts_over none = let z = ap (λ (w : Calls). w.count) none in omega (arith, k.tells)
 
-  pub counts_broken : (code : ℕ) → read_call input at ≡ broken code → n ≡ (calls_from (length input) input 0).count
-  counts_broken code e = let z = ap (λ (w : Calls). w.count) (calls_broken (length input - n) input at code e) in omega (arith, k.tells)
+  pub counts_nothing : (o : Option (Call × ℕ)) → found (Ok o) ≡ read_call input at → o ≡ None → n ≡ (file_calls input).count
+  counts_nothing o told is = counts_over (calls_nothing _ input at (told_nothing input at o told is))
+
+  pub counts_broken : (r : Result (Option (Call × ℕ)) ReadError) (e : ReadError) → found r ≡ read_call input at → r ≡ Err e → n ≡ (file_calls input).count
+  counts_broken r e told is = counts_over (told_broken e _ input at (rw is at told))
 
 -- `n` of the calls that are to be run have been run: `all` of them from the record `m`, and the rest from `cur`.
 -- Their answers stand in `out`, which was `out₀`.
@@ -225,7 +272,10 @@ runs_none m input out bound h =
 
 module _ {m : Monitor} {input : List ℕ} {all : Calls} {most : ℕ} {out₀ out : List ℤ} {cur : Monitor} {at n : ℕ}
     (k : Runs m input all most out₀ out cur at n) where
-  module _ (c : Call) (next : ℕ) (e : read_call input at ≡ called c next) (h : n < most) where
+  module _ (o : Option (Call × ℕ)) (told : found (Ok o) ≡ read_call input at) (c : Call) (next : ℕ) (is : o ≡ Some (c, next)) (h : n < most) where
+    e : read_call input at ≡ called c next
+    e = told_call input at o told c next is
+
     rest : Calls
     rest = calls_from (most - (n + 1)) input next
 
@@ -233,11 +283,12 @@ module _ {m : Monitor} {input : List ℕ} {all : Calls} {most : ℕ} {out₀ out
     unfolding rest
     first = let left : most - n ≡ suc (most - (n + 1)) = omega arith in ap (λ (f : ℕ). calls_from f input at) left ∙ calls_one (most - (n + 1)) input at c next e
 
-    pub runs_one : (s : Stepped) → s ≡ call_of cur c → sound s.monitor ≡ true
-        → (after : List ℤ) → after ≡ take (n * 6) out ++ places_of s.answer ++ drop (n * 6 + 6) out
-        → Runs m input all most out₀ after s.monitor next (n + 1)
+    pub runs_one : (r : Answer) (cur' : Monitor) → stepped r cur' ≡ call_of cur c → sound cur' ≡ true
+        → (after : List ℤ) → after ≡ take (n * 6) out ++ places_of r ++ drop (n * 6 + 6) out
+        → Runs m input all most out₀ after cur' next (n + 1)
     unfolding rest with_call ran_of answers_of call_at places_of
-    runs_one s same fits after put =
+    runs_one r cur' same fits after put =
+        let s : Stepped = stepped r cur' in
         let past = call_after input at c next e in
         let done : List ℤ = take (n * 6) out ++ places_of s.answer in
         let room = k.room in
@@ -278,7 +329,7 @@ module _ {m : Monitor} {input : List ℕ} {all : Calls} {most : ℕ} {out₀ out
         }
 
   -- no call is left to run
-  pub runs_end : (last : Bool) (code : ℤ) → calls_from (most - n) input at ≡ no_calls at → code ≡ code_at last (read_call input at)
+  runs_end : (last : Bool) (code : ℤ) → calls_from (most - n) input at ≡ no_calls at → code ≡ code_at last (read_call input at)
       → passed cur code n at out ≡ after_calls m input last out₀ all
   unfolding ran_of answers_of
   runs_end last code none tells =
@@ -304,40 +355,35 @@ module _ {m : Monitor} {input : List ℕ} {all : Calls} {most : ℕ} {out₀ out
       ∙ ap (passed cur code n at) places)
 
   -- the places are used up
-  pub runs_full : most ≤ n → calls_from (most - n) input at ≡ no_calls at
-  unfolding calls_from
-  runs_full h = ap (λ (f : ℕ). calls_from f input at) none
+  pub runs_full : (last : Bool) (o : Option (Call × ℕ)) (c : Call) (next : ℕ) → found (Ok o) ≡ read_call input at → o ≡ Some (c, next) → most ≤ n
+      → passed cur file_run n at out ≡ after_calls m input last out₀ all
+  unfolding calls_from code_at
+  runs_full last o c next told is h =
+      runs_end last file_run (ap (λ (f : ℕ). calls_from f input at) none) (sym (ap (code_at last) (told_call input at o told c next is)))
     where
       none : most - n ≡ 0
       none = omega arith
 
--- "Is the record sound?"
-pub piece_sound : (m : Monitor) (input : List ℕ) (last : Bool) (out : List ℤ) → sound m ≡ true → (p : Passed) → p ≡ piece_run m input last out
-    → p ≡ piece_of m input last out
-unfolding piece_of
-piece_sound m input last out h p e = e ∙ sym (pick_true (sound m) _ _ h)
+  pub runs_over : (last : Bool) (o : Option (Call × ℕ)) → found (Ok o) ≡ read_call input at → o ≡ None → passed cur file_run n at out ≡ after_calls m input last out₀ all
+  unfolding code_at
+  runs_over last o told is =
+      let e = told_nothing input at o told is in
+      runs_end last file_run (calls_nothing _ _ _ e) (sym (ap (code_at last) e))
 
--- "Has the answer list six places a call?", where the calls have been counted
-module _ (m : Monitor) (input : List ℕ) (out : List ℤ) (whole : ℕ) (e : whole ≡ (file_calls input).count) where
-  pub file_little : length out / 6 < whole → passed m too_little_room 0 0 out ≡ file_of m input out
-  unfolding file_of
-  file_little h = sym (pick_false (leb (file_calls input).count (length out / 6)) _ _ (lt-leb _ _ (subst (λ (k : ℕ). length out / 6 < k) e h)))
+  module _ (last : Bool) (code : ℤ) (e : ReadError) (told : found (Err e) ≡ read_call input at) where
+    pub runs_cut : e ≡ CutShort → code ≡ pick last cut_short file_run → passed cur code n at out ≡ after_calls m input last out₀ all
+    unfolding found code_at pick
+    runs_cut is same = runs_end last code (told_broken e _ input at told) (same ∙ ap (code_at last) (rw is at told))
 
-  pub file_enough : whole ≤ length out / 6 → (p : Passed) → p ≡ piece_of m input true out → p ≡ file_of m input out
-  unfolding file_of
-  file_enough h p f = f ∙ sym (pick_true (leb (file_calls input).count (length out / 6)) _ _ (le-leb _ _ (subst (λ (k : ℕ). k ≤ length out / 6) e h)))
+    pub runs_malformed : e ≡ Malformed → code ≡ malformed → passed cur code n at out ≡ after_calls m input last out₀ all
+    unfolding found code_at pick
+    runs_malformed is same = runs_end last code (told_broken e _ input at told) (same ∙ ap (code_at last) (rw is at told))
 
 -- no more calls than asked for
-further_few : (most : ℕ) (after : ℕ → Calls) (place : ℕ) → ((next : ℕ) → (after next).count ≤ most) → (r : CallReading) → (further r after place).count ≤ suc most
-unfolding further with_call
-further_few most after place few (called c next) = omega (arith, few next)
-further_few most after place few nothing = omega arith
-further_few most after place few (broken code) = omega arith
-
 pub calls_few : (most : ℕ) (input : List ℕ) (place : ℕ) → (calls_from most input place).count ≤ most
-unfolding calls_from
-calls_few zero input place = omega arith
-calls_few (suc most) input place = further_few most (calls_from most input) place (calls_few most input) (read_call input place)
+unfolding with_call
+calls_few most input place =
+    calls_by input (λ n _ w. w.count ≤ n) (λ _. omega arith) (λ _ _ _. omega arith) (λ n at c next e w few. omega arith) most place
 
 -- no more calls than there are places for
 pub piece_few : (m : Monitor) (input : List ℕ) (last : Bool) (out : List ℤ) → (piece_of m input last out).calls ≤ length out / 6

@@ -1,4 +1,4 @@
--- A party's own links close: another's stays as it is, and marks no transaction.
+-- A party's own links close: another's marks no transaction.
 -- Assumes nothing.
 use Rattle.std.proofs.Common.{ℕ, suc, ◌≡◌, refl, ap, sym, ◌∙◌, Bool, false, ◌&&◌, List, [], ◌∷◌, drop}
 use Rattle.rules.specs.declared.Link.{Link}
@@ -6,13 +6,8 @@ use Rattle.rules.specs.declared.Party.{Party}
 use Rattle.rules.specs.Lists.{first_of}
 use Rattle.rules.specs.Record.{is_conversation, own_end}
 use Rattle.rules.specs.Conversations.{originator_end}
-use Rattle.rules.specs.Return.{close_end, rollback_only_by}
+use Rattle.rules.specs.Return.{rollback_only_by}
 use Rattle.rules.proofs.Logic.{pick_true, pick_false, test, and_false}
-
--- another's link is left as it is
-pub stays : (p : ℕ) (l : Link) → own_end p l ≡ false → close_end p l ≡ l ∷ []
-unfolding close_end
-stays p l other = pick_false _ _ _ other
 
 not_own : (p : ℕ) (l : Link) → own_end p l ≡ false → originator_end p l ≡ false
 unfolding originator_end

@@ -1,19 +1,14 @@
 -- What writing a list of calls answers and leaves, and that what is written is read: the bytes are read as the same calls.
 -- Assumes nothing.
-use Prim.Native.Nat.{ℕ, zero, suc, ◌+◌, ◌-◌, ◌*◌, ◌/◌, ◌%◌, ◌≤◌, ◌<◌}
-use mathlib.Core.Path.{◌≡◌, refl, ap, sym, ◌∙◌}
-use mathlib.Core.Bool.{Bool, true, false}
-use mathlib.Core.List.{List, [], ◌∷◌, ◌++◌, append_assoc}
-use native.Mathlib.Omega.{arith}
-use borrow.Author.Tests.{eqb-true, eqb-false, eq-eqb, ne_eqb}
-use lib.Dec.{eqb}
-use lib.ListN.{length, take, drop, length-append}
+use Rattle.std.proofs.Common.{ℕ, zero, suc, ◌+◌, ◌-◌, ◌*◌, ◌/◌, ◌%◌, ◌≤◌, ◌<◌, ◌≡◌, ap, sym, ◌∙◌, List}
+use Rattle.std.proofs.Common.{[], ◌∷◌, ◌++◌, append_assoc, arith, eqb-true, eq-eqb, ne_eqb, eqb, length, take, drop, length-append}
+use Rattle.std.proofs.lemmas.Bool.{eqb-false}
 use Rattle.number.specs.Writer.{written, unwritten, write_answer, write_buffer}
 use Rattle.number.specs.Numbers.{read_numbers, numbers_bytes}
 use Rattle.number.proofs.Stores.{written_next, written_part}
 use Rattle.number.proofs.Successive.{Small, none_small, one_small, numbers_at, bytes_append, bytes_long}
 use Rattle.rules.specs.Run.{call_at}
-use Rattle.rules.proofs.Logic.{pick_true, pick_false}
+use Rattle.rules.proofs.Logic.{pick_true, pick_false, test}
 use Rattle.monitor.specs.File.{called, as_call, read_call, Calls, no_calls, with_call, calls_from, file_calls, whole_calls, file_answer, file_buffer}
 use Rattle.monitor.proofs.Calls.{call_some, call_none, calls_one, calls_nothing}
 
@@ -79,12 +74,6 @@ calls_at zero most [] front l h none_small =
     ∙ ap no_calls (omega arith)
 calls_at zero most (a ∷ values) front l h small = absurd (omega arith)
 calls_at (suc n) zero values front l h small = absurd (omega arith)
-calls_at (suc n) (suc most) [] front l h small = absurd (omega arith)
-calls_at (suc n) (suc most) (a ∷ []) front l h small = absurd (omega arith)
-calls_at (suc n) (suc most) (a ∷ b ∷ []) front l h small = absurd (omega arith)
-calls_at (suc n) (suc most) (a ∷ b ∷ c ∷ []) front l h small = absurd (omega arith)
-calls_at (suc n) (suc most) (a ∷ b ∷ c ∷ d ∷ []) front l h small = absurd (omega arith)
-calls_at (suc n) (suc most) (a ∷ b ∷ c ∷ d ∷ e ∷ []) front l h small = absurd (omega arith)
 calls_at (suc n) (suc most) (a ∷ b ∷ c ∷ d ∷ e ∷ g ∷ rest) front l h (one_small p (one_small q (one_small r (one_small s (one_small t (one_small u small)))))) =
     let first : List ℕ = a ∷ b ∷ c ∷ d ∷ e ∷ g ∷ [] in
     let sum : length (numbers_bytes (first ++ rest)) ≡ length (numbers_bytes first) + length (numbers_bytes rest) =
@@ -93,6 +82,7 @@ calls_at (suc n) (suc most) (a ∷ b ∷ c ∷ d ∷ e ∷ g ∷ rest) front l h
     call_then a b c d e g rest front most _ (one_small p (one_small q (one_small r (one_small s (one_small t (one_small u none_small))))))
     (calls_at n most rest (front ++ numbers_bytes first) (omega arith) (omega arith) small)
     ∙ ap (as_calls (suc n) (first ++ rest)) (omega (arith, sum, length-append front (numbers_bytes first)))
+calls_at (suc n) (suc most) _ front l h small = absurd (omega arith)
 
 -- The bytes of a list of calls are a file with just those calls.
 pub file_is_read : (calls : List ℕ) → length calls % 6 ≡ 0 → Small calls
@@ -104,11 +94,7 @@ file_is_read calls h small =
 -- What `write_calls` writes is a file with just the calls that it was given.
 module _ (buffer : List ℕ) (place : ℕ) (calls : List ℕ) (next : ℕ) (e : file_answer buffer place calls ≡ written next) where
   whole : length calls % 6 ≡ 0
-  whole = go (eqb (length calls % 6) 0) refl
-    where
-      go : (b : Bool) → eqb (length calls % 6) 0 ≡ b → length calls % 6 ≡ 0
-      go true f = eqb-true _ _ f
-      go false f = let u = unfinished_answer buffer place calls (eqb-false _ _ f) in let z : ◌≡◌ {A = ℕ} 0 1 = cc in absurd (omega arith)
+  whole = test (eqb (length calls % 6) 0) (λ f. eqb-true _ _ f) (λ f. let u = unfinished_answer buffer place calls (eqb-false _ _ f) in cc)
 
   wrote : write_answer buffer place (numbers_bytes calls) ≡ written next
   wrote = finished_answer buffer place calls whole ∙ e

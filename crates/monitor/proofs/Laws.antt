@@ -1,15 +1,8 @@
 -- Laws of the record read off its words: a link, a party, what is left of them from a place on, and look-ups by place.
 -- Assumes nothing.
-use Prim.Native.Nat.{ℕ, zero, suc, ◌+◌, ◌≤◌, ◌<◌}
-use mathlib.Core.Path.{◌≡◌, refl, ap, sym, ◌∙◌}
-use mathlib.Core.List.{List, [], ◌∷◌}
-use mathlib.Core.Bool.{Bool, true}
-use native.Mathlib.Nat.{le_of_suc-le-suc, not-suc-le-zero}
-use native.Mathlib.Omega.{arith}
-use borrow.Author.Tests.{lt-ltb, leb-true}
-use lib.Dec.{ltb}
-use lib.ListN.{length, drop, get_or, drop_of_length-le}
-use lib.Seq.{length-take-le}
+use Rattle.std.proofs.Common.{ℕ, zero, suc, ◌+◌, ◌≤◌, ◌<◌, ◌≡◌, refl, ap, sym, ◌∙◌, List, [], ◌∷◌, Bool, true, le_of_suc-le-suc}
+use Rattle.std.proofs.Common.{not-suc-le-zero, arith, lt-ltb, leb-true, ltb, length, drop, get_or, drop_of_length-le, length-take-le}
+use Rattle.std.proofs.lemmas.List.{drop_more}
 use Rattle.rules.specs.declared.Party.{Party}
 use Rattle.rules.specs.declared.Link.{Link}
 use Rattle.rules.specs.declared.Monitor.{Monitor}
@@ -20,7 +13,7 @@ use Rattle.rules.proofs.Logic.{pick_true, by_test}
 use Rattle.rules.proofs.Fine.{Shape}
 use Rattle.rules.proofs.Sound.{sound_ended, sound_placed}
 use Rattle.monitor.specs.View.{link_at, party_at, links_from, parties_from, view, link_in, live_at, changed_at}
-use Rattle.monitor.proofs.Lists.{live_cons, live_end, live_at_lem, live_past, rest_cons}
+use Rattle.monitor.proofs.Lists.{live_cons, live_end, live_at_lem, live_past}
 
 -- ---- links
 pub links_long : (n i : ℕ) (xs : List ℕ) → length (links_from n i xs) ≡ n
@@ -72,7 +65,7 @@ pub party_law : (xs : List ℕ) (p : ℕ) → p < 16 → party (view xs) p ≡ p
 party_law xs p h = parties_at 16 0 xs p fresh_party h ∙ ap (party_at xs) (omega arith)
 
 pub next_party : (xs : List ℕ) (p : ℕ) → p < 16 → drop p (view xs).parties ≡ party (view xs) p ∷ drop (p + 1) (view xs).parties
-next_party xs p h = let e = parties_long 16 0 xs in rest_cons (view xs).parties p fresh_party (omega arith)
+next_party xs p h = let e = parties_long 16 0 xs in drop_more (view xs).parties p fresh_party (omega arith)
 
 pub end_party : (xs : List ℕ) (p : ℕ) → 16 ≤ p → drop p (view xs).parties ≡ []
 end_party xs p h =
@@ -109,7 +102,7 @@ count_kept e h = let c = ap (λ (k : Monitor). k.count) e in omega (arith, h, c)
 -- a sound record has room for its links
 pub sound_room : (m : Monitor) → sound m ≡ true → m.count ≤ 32
 unfolding sound
-sound_room m e = by_test (λ (b : Bool). b ≡ true → m.count ≤ 32) (λ t _. leb-true _ _ t) (λ _ z. let w : ◌≡◌ {A = ℕ} 0 1 = cc in omega arith) e
+sound_room m e = by_test (λ (b : Bool). b ≡ true → m.count ≤ 32) (λ t _. leb-true _ _ t) (λ _ z. cc) e
 
 -- the link l that was read at the place i is one of those there are
 pub read_live : (xs : List ℕ) (i : ℕ) {l : Link} → (view xs).count ≤ 32 → i < (view xs).count → l ≡ link_in (view xs) i → l ≡ live_at (view xs) i

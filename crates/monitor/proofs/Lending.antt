@@ -2,12 +2,8 @@
 --     words_stored   what is an array `[u32; 900]` is all numbers of 32 bits
 --     store_stored   so are the words of what is a Store
 -- Assumes nothing.
-use Prim.Native.Nat.{ℕ, zero, suc, ◌<◌}
-use mathlib.Core.List.{List, [], ◌∷◌}
+use Rattle.std.proofs.Common.{ℕ, zero, suc, ◌<◌, List, [], ◌∷◌, le_of_suc-le-suc, not-suc-le-zero, length, get_or, rules}
 use mir.Val.{Val}
-use native.Mathlib.Nat.{le_of_suc-le-suc, not-suc-le-zero}
-use native.Mathlib.Omega.{arith}
-use lib.ListN.{length, get_or}
 use denote.RattleType.{RattleType}
 use denote.Laws.{Is}
 use denote.Shadow.{shadow}
@@ -28,7 +24,7 @@ each_small (x ∷ xs) (u ∷ us) s zero g = s.0.1
 each_small (x ∷ xs) (u ∷ us) s (suc k) g = each_small xs us s.1 k (le_of_suc-le-suc g)
 
 pub words_stored : (xs : List ℕ) (vs : List Val) → Is Words xs vs → WordsOf xs
-words_stored xs vs is = record { long = is.1.0.1; small = λ k g. each_small xs is.0 is.1.1 k (omega (arith, is.1.0.1)) }
+words_stored xs vs is = search rules
 
 pub store_stored : (m : Store) (vs : List Val) → Is S.the_row m vs → WordsOf m.words
 store_stored m vs is = words_stored m.words is.0.0 is.1.1.0

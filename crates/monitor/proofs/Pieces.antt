@@ -1,17 +1,11 @@
 -- Pieces are the whole: a file that is run in pieces gives the answers, the record and the code of the whole file, whichever way it is cut.
 -- Assumes nothing.
-use Prim.Native.Nat.{ℕ, zero, suc, ◌+◌, ◌-◌, ◌*◌, ◌/◌, ◌≤◌, ◌<◌}
-use mathlib.Core.Path.{◌≡◌, refl, ap, sym, ◌∙◌, subst}
-use mathlib.Core.Logic.{◌⊎◌, inl, inr, ⊎_elim}
-use mathlib.Core.Bool.{Bool, true, false}
-use mathlib.Core.List.{List, [], ◌∷◌, ◌++◌, append_assoc, append-nil}
-use native.Mathlib.Nat.{zero-add, add-zero, suc-add}
-use native.Mathlib.Omega.{arith}
-use borrow.Author.Tests.{eqb-true, eqb-false, eq-eqb, le-leb}
-use lib.Dec.{eqb, leb}
-use lib.IntN.{ℤ, pos}
-use lib.ListN.{length, drop, get_or, length-append, length-drop, get_or-append}
-use lib.Seq.{take_at, drop-append-le}
+use Rattle.std.proofs.Common.{ℕ, zero, suc, ◌+◌, ◌-◌, ◌*◌, ◌/◌, ◌≤◌, ◌<◌, ◌≡◌, refl, ap, sym, ◌∙◌, subst, ◌⊎◌, inl, ⊎_elim}
+use Rattle.std.proofs.Common.{Bool, true, false, List, [], ◌∷◌, ◌++◌, append_assoc, append-nil, zero-add, add-zero, suc-add, arith}
+use Rattle.std.proofs.Common.{eqb-true, eq-eqb, le-leb, eqb, leb, ℤ, pos, length, drop, get_or, length-append, length-drop, take_at, rules}
+use Rattle.std.proofs.lemmas.Bool.{eqb-false}
+use Rattle.std.proofs.Math.ListN.{get_or-append}
+use Rattle.std.proofs.lemmas.List.{drop-append-le}
 use Rattle.number.proofs.Reading.{below_or_not}
 use Rattle.rules.specs.Choice.{pick}
 use Rattle.rules.specs.Codes.{file_run, cut_short, unsound}
@@ -128,7 +122,7 @@ whole_none m input e = ap (ran_whole m input) e
 module _ (m : Monitor) (left more : List ℕ) (last : Bool) (ended : last ≡ true → more ≡ []) where
   inside : (code : ℕ) → read_call left 0 ≡ broken code → 0 < length left
   inside code e =
-      ⊎_elim (λ h. h) (λ h. let n = call_none left 0 h in let z : ◌≡◌ {A = ℕ} 0 1 = cc in absurd (omega arith)) (below_or_not 0 (length left))
+      ⊎_elim (λ h. h) (λ h. let n = call_none left 0 h in cc) (below_or_not 0 (length left))
 
   broken_whole : (code : ℕ) → read_call (left ++ more) 0 ≡ broken code → whole_run m (left ++ more) ≡ passed m (code_at true (broken code)) 0 0 []
   broken_whole code e =
@@ -143,8 +137,7 @@ module _ (m : Monitor) (left more : List ℕ) (last : Bool) (ended : last ≡ tr
       test last
       (λ l. let none : length left ≡ 0 = eqb-true (length left) 0 (sym (pick_true last (eqb (length left) 0) false l) ∙ over) in
       let n = call_none left 0 (omega arith) in
-      let z : ◌≡◌ {A = ℕ} 0 1 = cc in
-      absurd (omega arith))
+      cc)
       (λ l. not_both over (pick_false last (eqb (length left) 0) false l))
   over_whole nothing e over =
       test last
@@ -176,14 +169,7 @@ module _ (m : Monitor) (bytes : List ℕ) (last : Bool) (out : List ℤ) (room :
   stays : (r : CallReading) → read_call bytes 0 ≡ r → (w : Calls) → w ≡ no_calls 0 → GoesOn w → is_over true (code_at true r) (length bytes) ≡ true
       → length bytes ≤ 30 → Moves w
   unfolding GoesOn Moves
-  stays r e w none on over few =
-      subst Moves (sym none)
-      (test last
-      (λ l. not_both over
-      (ap (λ (b : Bool). is_over b (code_at b r) (length bytes)) (sym l)
-      ∙ ap (λ (x : CallReading). is_over last (code_at last x) (length bytes)) (sym e)
-      ∙ subst GoesOn none on))
-      (λ l. inr (l, few)))
+  stays r e w none on over few = search rules
 
   first : (r : CallReading) → read_call bytes 0 ≡ r → GoesOn (calls_from (length out / 6) bytes 0) → Moves (calls_from (length out / 6) bytes 0)
   unfolding GoesOn Moves is_over is_refused code_at pick with_call

@@ -1,14 +1,8 @@
 -- Laws of a drill file that goes on: what is read of its first bytes stays, what is read from a place on is what the bytes from there on have, and the whole
 -- calls are those of a front and those of the rest.
 -- Assumes nothing.
-use Prim.Native.Nat.{ℕ, zero, suc, ◌+◌, ◌-◌, ◌*◌, ◌≤◌, ◌<◌}
-use mathlib.Core.Path.{◌≡◌, refl, ap, sym, ◌∙◌, subst}
-use mathlib.Core.Logic.{◌⊎◌, inl, inr, ⊎_elim}
-use mathlib.Core.Bool.{Bool}
-use mathlib.Core.List.{List, [], ◌∷◌, ◌++◌, append-nil}
-use native.Mathlib.Nat.{zero-add, add-zero, suc-add}
-use native.Mathlib.Omega.{arith}
-use lib.ListN.{length, drop, length-append, length-drop}
+use Rattle.std.proofs.Common.{ℕ, zero, suc, ◌+◌, ◌-◌, ◌*◌, ◌≤◌, ◌<◌, ◌≡◌, refl, ap, sym, ◌∙◌, ◌⊎◌, inl, inr, ⊎_elim, Bool, List}
+use Rattle.std.proofs.Common.{[], ◌∷◌, ◌++◌, append-nil, zero-add, add-zero, suc-add, arith, length, drop, length-append, length-drop, rules}
 use Rattle.number.specs.Reader.{Reading, number, refused, read_number}
 use Rattle.number.specs.Numbers.{Numbers, numbers, stopped, ahead, onward, read_numbers}
 use Rattle.number.proofs.Reading.{below_or_not, one_of_three, number_within, number_near, cut_near_end, answer_extends, shifted, number_shifts}
@@ -16,7 +10,7 @@ use Rattle.number.proofs.Successive.{one_more, no_more}
 use Rattle.rules.specs.declared.Call.{Call}
 use Rattle.monitor.specs.File.{CallReading, called, nothing, broken, as_call}
 use Rattle.monitor.specs.File.{read_call, Calls, no_calls, with_call, further, calls_from, file_calls, code_at}
-use Rattle.monitor.proofs.Calls.{call_some, call_none, call_after, call_within, calls_one, calls_nothing, calls_broken, calls_few}
+use Rattle.monitor.proofs.Calls.{call_some, call_none, call_after, call_within, calls_one, calls_nothing, calls_by, calls_few}
 
 -- ---- what follows
 
@@ -49,7 +43,7 @@ module _ (input more : List ℕ) (place : ℕ) where
 
   pub called_extends : (c : Call) (next : ℕ) → read_call input place ≡ called c next → read_call (input ++ more) place ≡ called c next
   called_extends c next e =
-      call_extends (omega (arith, call_after input place c next e, call_within input place c next e)) (λ f. let z : ◌≡◌ {A = ℕ} 0 1 = cc in omega arith) ∙ e
+      call_extends (omega (arith, call_after input place c next e, call_within input place c next e)) (λ f. cc) ∙ e
 
 -- ---- from a place on
 
@@ -100,19 +94,17 @@ call_shifts input by place =
 
 pub code_shifts : (last : Bool) (by : ℕ) (r : CallReading) → code_at last (shifted_call by r) ≡ code_at last r
 unfolding code_at shifted_call
-code_shifts last by (called c next) = refl
 code_shifts last by nothing = refl
-code_shifts last by (broken code) = refl
+code_shifts last by _ = refl
 
 abbrev pub shifted_calls : ℕ → Calls → Calls
-shifted_calls by w = record { count = w.count; numbers = w.numbers; next = by + w.next }
+shifted_calls by w = record w { next = by + w.next }
 
 further_shifts : (by : ℕ) (r : CallReading) (f g : ℕ → Calls) (place : ℕ) → ((next : ℕ) → f (by + next) ≡ shifted_calls by (g next))
     → further (shifted_call by r) f (by + place) ≡ shifted_calls by (further r g place)
 unfolding further shifted_call with_call
 further_shifts by (called c next) f g place same = ap (with_call c) (same next)
-further_shifts by nothing f g place same = refl
-further_shifts by (broken code) f g place same = refl
+further_shifts by _ f g place same = refl
 
 calls_shift : (most : ℕ) (input : List ℕ) (by place : ℕ) → calls_from most input (by + place) ≡ shifted_calls by (calls_from most (drop by input) place)
 unfolding calls_from
@@ -128,58 +120,42 @@ abbrev pub and_then : Calls → Calls → Calls
 and_then w v = record { count = w.count + v.count; numbers = w.numbers ++ v.numbers; next = v.next }
 
 none_then : (v : Calls) (place : ℕ) → v ≡ and_then (no_calls place) v
-none_then v place = ap (λ (k : ℕ). record { count = k; numbers = v.numbers; next = v.next }) (sym (zero-add v.count))
+none_then v place = ap (λ (k : ℕ). record v { count = k }) (sym (zero-add v.count))
 
 then_none : (w : Calls) → and_then w (no_calls w.next) ≡ w
-then_none w = λ i. record { count = add-zero w.count i; numbers = append-nil w.numbers i; next = w.next }
+then_none w = search rules
 
 -- The calls that the first bytes have, at most so many, are the first of the whole.
 calls_extend : (most n : ℕ) (input more : List ℕ) (place : ℕ)
     → let w = calls_from most input place in
     calls_from (w.count + n) (input ++ more) place ≡ and_then w (calls_from n (input ++ more) w.next)
-unfolding calls_from with_call
-calls_extend zero n input more place = ap (λ (k : ℕ). calls_from k (input ++ more) place) (zero-add n) ∙ none_then (calls_from n (input ++ more) place) place
-calls_extend (suc most) n input more place = go (λ next. calls_extend most n input more next) (read_call input place) refl
+unfolding with_call
+calls_extend most n input more place = calls_by input (λ _ at w. Splits at w) none (λ _ at _. none at) (λ _ at c next e w f. one at c next e w f) most place
   where
-    Splits : Calls → Type 0
-    Splits w = calls_from (w.count + n) (input ++ more) place ≡ and_then w (calls_from n (input ++ more) w.next)
+    Splits : ℕ → Calls → Type 0
+    Splits at w = calls_from (w.count + n) (input ++ more) at ≡ and_then w (calls_from n (input ++ more) w.next)
 
-    none : Splits (no_calls place)
-    none = ap (λ (k : ℕ). calls_from k (input ++ more) place) (zero-add n) ∙ none_then (calls_from n (input ++ more) place) place
+    none : (at : ℕ) → Splits at (no_calls at)
+    none at = ap (λ (k : ℕ). calls_from k (input ++ more) at) (zero-add n) ∙ none_then (calls_from n (input ++ more) at) at
 
-    one : (c : Call) (next : ℕ) (w : Calls) → read_call input place ≡ called c next
-        → calls_from (w.count + n) (input ++ more) next ≡ and_then w (calls_from n (input ++ more) w.next) → Splits (with_call c w)
-    one c next w e f =
+    one : (at : ℕ) (c : Call) (next : ℕ) → read_call input at ≡ called c next → (w : Calls) → Splits next w → Splits at (with_call c w)
+    one at c next e w f =
         let rest = calls_from n (input ++ more) w.next in
-        ap (λ (k : ℕ). calls_from k (input ++ more) place) (suc-add w.count n)
-        ∙ calls_one (w.count + n) (input ++ more) place c next (called_extends input more place c next e)
+        ap (λ (k : ℕ). calls_from k (input ++ more) at) (suc-add w.count n)
+        ∙ calls_one (w.count + n) (input ++ more) at c next (called_extends input more at c next e)
         ∙ ap (with_call c) f
         ∙ ap (λ (k : ℕ). record { count = k; numbers = (with_call c w).numbers ++ rest.numbers; next = rest.next }) (sym (suc-add w.count rest.count))
-
-    go :
-        ((next : ℕ) → let w = calls_from most input next in
-        calls_from (w.count + n) (input ++ more) next ≡ and_then w (calls_from n (input ++ more) w.next))
-        → (r : CallReading) → read_call input place ≡ r → Splits (calls_from (suc most) input place)
-    go rest (called c next) e = subst Splits (sym (calls_one most input place c next e)) (one c next (calls_from most input next) e (rest next))
-    go rest nothing e = subst Splits (sym (calls_nothing (suc most) input place e)) none
-    go rest (broken code) e = subst Splits (sym (calls_broken (suc most) input place code e)) none
 
 -- no call stands after all whole calls
 calls_rest : (most : ℕ) (input : List ℕ) (place : ℕ) → length input ≤ place + most → (n : ℕ)
     → calls_from n input (calls_from most input place).next ≡ no_calls (calls_from most input place).next
-unfolding calls_from with_call
-calls_rest zero input place h n = calls_nothing n input place (call_none input place (omega arith))
-calls_rest (suc most) input place h n = go (λ next k. calls_rest most input next k n) (read_call input place) refl
-  where
-    Rests : Calls → Type 0
-    Rests w = calls_from n input w.next ≡ no_calls w.next
-
-    go : ((next : ℕ) → length input ≤ next + most → calls_from n input (calls_from most input next).next ≡ no_calls (calls_from most input next).next)
-        → (r : CallReading) → read_call input place ≡ r → Rests (calls_from (suc most) input place)
-    go rest (called c next) e =
-        subst Rests (sym (calls_one most input place c next e)) (rest next (omega (arith, call_after input place c next e)))
-    go rest nothing e = subst Rests (sym (calls_nothing (suc most) input place e)) (calls_nothing n input place e)
-    go rest (broken code) e = subst Rests (sym (calls_broken (suc most) input place code e)) (calls_broken n input place code e)
+unfolding with_call
+calls_rest most input place h n =
+    calls_by input (λ some at w. length input ≤ at + some → calls_from n input w.next ≡ no_calls w.next)
+    (λ at g. calls_nothing n input at (call_none input at (omega arith)))
+    (λ some at stops g. stops n)
+    (λ some at c next e w rest g. rest (omega (arith, call_after input at c next e)))
+    most place h
 
 -- whoever asks for at least as many calls as there are gets them all
 pub calls_all : (most : ℕ) (input : List ℕ) → (file_calls input).count ≤ most → calls_from most input 0 ≡ file_calls input
@@ -214,36 +190,20 @@ module _ (most : ℕ) (bytes more : List ℕ) where
 -- ---- six numbers a call
 
 pub calls_long : (most : ℕ) (input : List ℕ) (place : ℕ) → length (calls_from most input place).numbers ≡ (calls_from most input place).count * 6
-unfolding calls_from with_call
-calls_long zero input place = refl
-calls_long (suc most) input place = go (calls_long most input) (read_call input place) refl
-  where
-    Long : Calls → Type 0
-    Long w = length w.numbers ≡ w.count * 6
-
-    go : ((next : ℕ) → Long (calls_from most input next)) → (r : CallReading) → read_call input place ≡ r → Long (calls_from (suc most) input place)
-    go rest (called c next) e = subst Long (sym (calls_one most input place c next e)) (omega (arith, rest next))
-    go rest nothing e = subst Long (sym (calls_nothing (suc most) input place e)) refl
-    go rest (broken code) e = subst Long (sym (calls_broken (suc most) input place code e)) refl
+unfolding with_call
+calls_long most input place =
+    calls_by input (λ _ _ w. length w.numbers ≡ w.count * 6) (λ _. refl) (λ _ _ _. refl) (λ _ at c next e w rest. omega arith) most place
 
 -- they end past the place where they start, and within the input
 pub calls_end : (most : ℕ) (input : List ℕ) (place : ℕ) → place ≤ length input
     → (place ≤ (calls_from most input place).next) × ((calls_from most input place).next ≤ length input)
-unfolding calls_from with_call
-calls_end zero input place h = (omega arith, h)
-calls_end (suc most) input place h = go (calls_end most input) (read_call input place) refl
-  where
-    Ends : Calls → Type 0
-    Ends w = (place ≤ w.next) × (w.next ≤ length input)
-
-    go : ((next : ℕ) → next ≤ length input → (next ≤ (calls_from most input next).next) × ((calls_from most input next).next ≤ length input))
-        → (r : CallReading) → read_call input place ≡ r → Ends (calls_from (suc most) input place)
-    go rest (called c next) e =
-        let past = call_after input place c next e in
-        let ends = rest next (call_within input place c next e) in
-        subst Ends (sym (calls_one most input place c next e)) (omega (arith, ends.0), ends.1)
-    go rest nothing e = subst Ends (sym (calls_nothing (suc most) input place e)) (omega arith, h)
-    go rest (broken code) e = subst Ends (sym (calls_broken (suc most) input place code e)) (omega arith, h)
+unfolding with_call
+calls_end most input place =
+    calls_by input (λ _ at w. at ≤ length input → (at ≤ w.next) × (w.next ≤ length input)) (λ at h. (omega arith, h)) (λ _ at _ h. (omega arith, h))
+    (λ _ at c next e w rest h. let past = call_after input at c next e in
+    let ends = rest (call_within input at c next e) in
+    (omega (arith, ends.0), ends.1))
+    most place
 
 -- ---- refusals
 
@@ -251,7 +211,7 @@ calls_end (suc most) input place h = go (calls_end most input) (read_call input 
 numbers_stop : (count : ℕ) (input : List ℕ) (place code : ℕ) → read_numbers count input place ≡ stopped code
     → ((code ≡ 17) × (length input ≤ place + count * 5)) ⊎ (code ≡ 18)
 unfolding read_numbers ahead
-numbers_stop zero input place code e = let z : ◌≡◌ {A = ℕ} 0 1 = cc in absurd (omega arith)
+numbers_stop zero input place code e = cc
 numbers_stop (suc count) input place code e =
     ⊎_elim
     (λ r. let near = number_near 5 32 input place r.0 r.1 r.2 in
@@ -267,8 +227,7 @@ numbers_stop (suc count) input place code e =
         → read_numbers count input next ≡ stopped code
     later value next r (numbers values after) f =
         let s = one_more count input place value next r ∙ ap (ahead (value ∷ [])) f in
-        let z : ◌≡◌ {A = ℕ} 0 1 = cc in
-        absurd (omega arith)
+        cc
     later value next r (stopped other) f =
         let s = one_more count input place value next r ∙ ap (ahead (value ∷ [])) f in
         let same : other ≡ code = cc in
@@ -279,12 +238,12 @@ pub call_breaks : (input : List ℕ) (place code : ℕ) → read_call input plac
 unfolding as_call
 call_breaks input place code e =
     ⊎_elim (λ h. go (read_numbers 6 input place) refl (sym (call_some input place h) ∙ e))
-    (λ h. let n = call_none input place h in let z : ◌≡◌ {A = ℕ} 0 1 = cc in absurd (omega arith))
+    (λ h. let n = call_none input place h in cc)
     (below_or_not place (length input))
   where
     go : (ns : Numbers) → read_numbers 6 input place ≡ ns → as_call (read_numbers 6 input place) ≡ broken code
         → ((code ≡ 17) × (length input ≤ place + 30)) ⊎ (code ≡ 18)
-    go (numbers values next) f g = let z : ◌≡◌ {A = ℕ} 0 1 = cc in absurd (omega arith)
+    go (numbers values next) f g = cc
     go (stopped other) f g = let same : other ≡ code = cc in numbers_stop 6 input place code (f ∙ ap stopped same)
 
 -- nothing stands at the front of no bytes alone
@@ -293,5 +252,5 @@ unfolding as_call
 nothing_none input e = ⊎_elim (λ h. absurd (go (read_numbers 6 input 0) (sym (call_some input 0 h) ∙ e))) (λ h. omega arith) (below_or_not 0 (length input))
   where
     go : (ns : Numbers) → as_call ns ≡ nothing → ⊥
-    go (numbers values next) f = let z : ◌≡◌ {A = ℕ} 0 1 = cc in omega arith
-    go (stopped code) f = let z : ◌≡◌ {A = ℕ} 0 1 = cc in omega arith
+    go (numbers values next) f = cc
+    go (stopped code) f = cc

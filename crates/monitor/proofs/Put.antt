@@ -1,18 +1,17 @@
 -- What a store changes of the record: a link, a party or a number of the head alone.
 -- Assumes nothing.
-use Prim.Native.Nat.{ℕ, zero, suc, ◌+◌, ◌*◌, ◌≤◌, ◌<◌}
-use mathlib.Core.Path.{◌≡◌, refl, ap, sym, ◌∙◌}
-use mathlib.Core.List.{List, [], ◌∷◌}
-use native.Mathlib.Nat.{le_of_suc-le-suc, not-suc-le-zero, div-add-mod'}
-use native.Mathlib.Omega.{arith}
-use lib.ListN.{length, get_or, set, length-set}
-use lib.Seq.{sets, length-sets, get_or-set_same, get_or-set_other}
+use Rattle.std.proofs.Common.{ℕ, zero, suc, ◌+◌, ◌*◌, ◌≤◌, ◌<◌, ◌≡◌, refl, ap, sym, ◌∙◌, List, [], ◌∷◌, le_of_suc-le-suc}
+use Rattle.std.proofs.Common.{not-suc-le-zero, div-add-mod', arith, length, get_or, set, length-set, get_or-set_same, get_or-set_other, ext_get_or, eqb, eqb-true}
+use Rattle.std.proofs.lemmas.Bool.{eqb-false}
+use Rattle.std.proofs.lemmas.List.Edits.{sets}
 use Rattle.rules.specs.declared.Party.{Party}
 use Rattle.rules.specs.declared.Link.{Link}
 use Rattle.rules.specs.declared.Monitor.{Monitor}
-use Rattle.rules.specs.Record.{with_unread, with_reports, with_rights, offering, owning, with_clock, with_last_link, with_last_tx, with_party, with_count, replaced}
+use Rattle.rules.specs.Record.{fresh_link, fresh_party, party, with_unread, with_reports, with_rights, offering, owning, with_clock, with_last_link, with_last_tx, with_party, with_count, replaced}
 use Rattle.monitor.specs.Words.{head_size, party_size, link_size, party_base, link_base, words, link_words, low, high, party_words, stored_from, stored}
-use Rattle.monitor.specs.View.{link_at, party_at, links_from, parties_from, view}
+use Rattle.rules.proofs.Logic.{test}
+use Rattle.monitor.specs.View.{link_at, party_at, link_in, view}
+use Rattle.monitor.proofs.Laws.{links_long, parties_long, link_law, party_law}
 
 -- ---- a run of stores: what stands before it, past it and in it
 from_sets : (vs l : List ℕ) (at k : ℕ) → stored_from l at k vs ≡ sets l (at + k) vs
@@ -23,22 +22,17 @@ stored_sets : (vs l : List ℕ) (at : ℕ) → stored l at vs ≡ sets l at vs
 stored_sets [] l at = refl
 stored_sets (a ∷ vs) l at = from_sets vs (set l at a) at 1 ∙ ap (λ (n : ℕ). sets (set l at a) n vs) (omega arith)
 
-pub stored_long : (vs l : List ℕ) (at : ℕ) → length (stored l at vs) ≡ length l
-stored_long vs l at = ap length (stored_sets vs l at) ∙ length-sets l at vs
-
-sets_before : (vs l : List ℕ) (i k : ℕ) → k < i → get_or (sets l i vs) k 0 ≡ get_or l k 0
-sets_before [] l i k h = refl
-sets_before (a ∷ vs) l i k h = sets_before vs (set l i a) (suc i) k (omega arith) ∙ get_or-set_other l i k a 0 (λ e. omega (arith, e))
-
-sets_past : (vs l : List ℕ) (i k : ℕ) → i + length vs ≤ k → get_or (sets l i vs) k 0 ≡ get_or l k 0
-sets_past [] l i k h = refl
-sets_past (a ∷ vs) l i k h = sets_past vs (set l i a) (suc i) k (omega arith) ∙ get_or-set_other l i k a 0 (λ e. omega (arith, e))
+-- elsewhere nothing changes
+sets_other : (vs l : List ℕ) (i k : ℕ) → (i ≤ k → k < i + length vs → ⊥) → get_or (sets l i vs) k 0 ≡ get_or l k 0
+sets_other [] l i k out = refl
+sets_other (a ∷ vs) l i k out =
+    sets_other vs (set l i a) (suc i) k (λ p q. out (omega arith) (omega arith)) ∙ get_or-set_other l i k a 0 (λ e. out (omega (arith, e)) (omega (arith, e)))
 
 sets_within : (vs l : List ℕ) (i j : ℕ) → j < length vs → i + length vs ≤ length l → get_or (sets l i vs) (i + j) 0 ≡ get_or vs j 0
 sets_within [] l i j h k = absurd (not-suc-le-zero h)
 sets_within (a ∷ vs) l i zero h k =
     ap (λ (n : ℕ). get_or (sets (set l i a) (suc i) vs) n 0) (omega arith)
-    ∙ sets_before vs (set l i a) (suc i) i (omega arith) ∙ get_or-set_same l i a 0 (omega arith)
+    ∙ sets_other vs (set l i a) (suc i) i (λ p q. omega arith) ∙ get_or-set_same l i a 0 (omega arith)
 sets_within (a ∷ vs) l i (suc j) h k =
     let e : i + suc j ≡ suc i + j = omega arith in
     let n = length-set l i a in
@@ -49,11 +43,8 @@ abbrev Same : List ℕ → List ℕ → ℕ → ℕ → Type 0
 Same ys xs a b = (k : ℕ) → a ≤ k → k < b → get_or ys k 0 ≡ get_or xs k 0
 
 module _ (vs xs : List ℕ) (at : ℕ) where
-  before : (a : ℕ) → Same (stored xs at vs) xs a at
-  before a k _ h = ap (λ (l : List ℕ). get_or l k 0) (stored_sets vs xs at) ∙ sets_before vs xs at k h
-
-  past : (b : ℕ) → Same (stored xs at vs) xs (at + length vs) b
-  past b k h _ = ap (λ (l : List ℕ). get_or l k 0) (stored_sets vs xs at) ∙ sets_past vs xs at k h
+  other : (k : ℕ) → (at ≤ k → k < at + length vs → ⊥) → get_or (stored xs at vs) k 0 ≡ get_or xs k 0
+  other k out = ap (λ (l : List ℕ). get_or l k 0) (stored_sets vs xs at) ∙ sets_other vs xs at k out
 
   within : (j : ℕ) → j < length vs → at + length vs ≤ length xs → get_or (stored xs at vs) (at + j) 0 ≡ get_or vs j 0
   within j h k = ap (λ (l : List ℕ). get_or l (at + j) 0) (stored_sets vs xs at) ∙ sets_within vs xs at j h k
@@ -137,6 +128,17 @@ stored_words (v ∷ vs) xs at h =
     let ys = stored xs at (v ∷ vs) in
     λ z. here z ∷ words_from_is ys vs at 1 (λ j g. ap (λ (n : ℕ). get_or ys (at + n) 0) (omega arith) ∙ within (v ∷ vs) xs at (suc j) (omega arith) h) z
 
+-- ---- lists with the same at each place, and at each but one
+module _ {A : Type 0} (d : A) (xs ys : List A) (n : ℕ) (la : length xs ≡ n) (lb : length ys ≡ n) where
+  alike : ((k : ℕ) → k < n → get_or xs k d ≡ get_or ys k d) → xs ≡ ys
+  alike g = ext_get_or d xs ys (la ∙ sym lb) (λ k h. g k (omega arith))
+
+  but_one : (i : ℕ) (x : A) → i < n → get_or xs i d ≡ x → ((k : ℕ) → k < n → (k ≡ i → ⊥) → get_or xs k d ≡ get_or ys k d) → xs ≡ set ys i x
+  but_one i x h e g =
+      ext_get_or d xs (set ys i x) (la ∙ sym (length-set ys i x ∙ lb)) (λ k l. test (eqb k i)
+      (λ t. let q = eqb-true k i t in rw q (e ∙ sym (get_or-set_same ys i x d (omega arith))))
+      (λ f. let q = eqb-false k i f in g k (omega arith) q ∙ sym (get_or-set_other ys i k x d (λ r. q (omega arith)))))
+
 -- ---- the same numbers make the same links and parties
 module _ (ys xs : List ℕ) where
   words_from_alike : (n at k : ℕ) → Same ys xs (at + k) (at + k + n) → words_from ys at k n ≡ words_from xs at k n
@@ -149,57 +151,27 @@ module _ (ys xs : List ℕ) where
   words_at_alike zero at g = refl
   words_at_alike (suc n) at g = λ z. g at (omega arith) (omega arith) z ∷ words_from_alike n at 1 (λ j a b. g j (omega arith) (omega arith)) z
 
-  link_alike : (i : ℕ) → Same ys xs (link_base i) (link_base i + link_size) → link_at ys i ≡ link_at xs i
-  link_alike i g = link_made ys i ∙ ap link_from (words_at_alike link_size (link_base i) g) ∙ sym (link_made xs i)
+  head_alike : Same ys xs 0 head_size → head_at ys ≡ head_at xs
+  head_alike g = words_from_alike head_size 0 0 g
 
-  party_alike : (p : ℕ) → Same ys xs (party_base p) (party_base p + party_size) → party_at ys p ≡ party_at xs p
-  party_alike p g = party_made ys p ∙ ap party_from (words_at_alike party_size (party_base p) g) ∙ sym (party_made xs p)
+  link_alike : (i : ℕ) → i < 32 → Same ys xs (link_base i) (link_base i + link_size) → link_in (view ys) i ≡ link_in (view xs) i
+  link_alike i h g =
+      link_law ys i h ∙ link_made ys i ∙ ap link_from (words_at_alike link_size (link_base i) g) ∙ sym (link_law xs i h ∙ link_made xs i)
 
-  links_alike : (m i : ℕ) → Same ys xs (link_base i) (link_base (i + m)) → links_from m i ys ≡ links_from m i xs
-  unfolding links_from
-  links_alike zero i g = refl
-  links_alike (suc m) i g = λ z. link_alike i (λ k a b. g k a (omega arith)) z ∷ links_alike m (suc i) (λ k a b. g k (omega arith) (omega arith)) z
+  party_alike : (p : ℕ) → p < 16 → Same ys xs (party_base p) (party_base p + party_size) → party (view ys) p ≡ party (view xs) p
+  party_alike p h g =
+      party_law ys p h ∙ party_made ys p ∙ ap party_from (words_at_alike party_size (party_base p) g) ∙ sym (party_law xs p h ∙ party_made xs p)
 
-  parties_alike : (m p : ℕ) → Same ys xs (party_base p) (party_base (p + m)) → parties_from m p ys ≡ parties_from m p xs
-  unfolding parties_from
-  parties_alike zero p g = refl
-  parties_alike (suc m) p g = λ z. party_alike p (λ k a b. g k a (omega arith)) z ∷ parties_alike m (suc p) (λ k a b. g k (omega arith) (omega arith)) z
+  links_alike : Same ys xs (link_base 0) words → (view ys).links ≡ (view xs).links
+  links_alike g = alike fresh_link _ _ 32 (links_long 32 0 ys) (links_long 32 0 xs) (λ k h. link_alike k h (λ w a b. g w (omega arith) (omega arith)))
 
-  -- ---- but for one of them
-  links_put : (l : Link) (m j d : ℕ) → d < m → Same ys xs (link_base j) (link_base (j + d)) → link_at ys (j + d) ≡ l
-      → Same ys xs (link_base (j + d) + link_size) (link_base (j + m)) → links_from m j ys ≡ set (links_from m j xs) d l
-  unfolding links_from
-  links_put l zero j d h a e b = absurd (not-suc-le-zero h)
-  links_put l (suc m) j zero h a e b =
-      let q : j ≡ j + 0 = omega arith in
-      λ z. (ap (link_at ys) q ∙ e) z ∷ links_alike m (suc j) (λ k u v. b k (omega arith) (omega arith)) z
-  links_put l (suc m) j (suc d) h a e b =
-      let q : suc j + d ≡ j + suc d = omega arith in
-      let front : Same ys xs (link_base (suc j)) (link_base (suc j + d)) = λ k u v. a k (omega arith) (omega arith) in
-      let back : Same ys xs (link_base (suc j + d) + link_size) (link_base (suc j + m)) = λ k u v. b k (omega arith) (omega arith) in
-      λ z. link_alike j (λ k u v. a k u (omega arith)) z ∷ links_put l m (suc j) d (le_of_suc-le-suc h) front (ap (link_at ys) q ∙ e) back z
-
-  parties_put : (r : Party) (m j d : ℕ) → d < m → Same ys xs (party_base j) (party_base (j + d)) → party_at ys (j + d) ≡ r
-      → Same ys xs (party_base (j + d) + party_size) (party_base (j + m)) → parties_from m j ys ≡ set (parties_from m j xs) d r
-  unfolding parties_from
-  parties_put r zero j d h a e b = absurd (not-suc-le-zero h)
-  parties_put r (suc m) j zero h a e b =
-      let q : j ≡ j + 0 = omega arith in
-      λ z. (ap (party_at ys) q ∙ e) z ∷ parties_alike m (suc j) (λ k u v. b k (omega arith) (omega arith)) z
-  parties_put r (suc m) j (suc d) h a e b =
-      let q : suc j + d ≡ j + suc d = omega arith in
-      let front : Same ys xs (party_base (suc j)) (party_base (suc j + d)) = λ k u v. a k (omega arith) (omega arith) in
-      let back : Same ys xs (party_base (suc j + d) + party_size) (party_base (suc j + m)) = λ k u v. b k (omega arith) (omega arith) in
-      λ z. party_alike j (λ k u v. a k u (omega arith)) z ∷ parties_put r m (suc j) d (le_of_suc-le-suc h) front (ap (party_at ys) q ∙ e) back z
+  parties_alike : Same ys xs (party_base 0) (party_base 16) → (view ys).parties ≡ (view xs).parties
+  parties_alike g = alike fresh_party _ _ 16 (parties_long 16 0 ys) (parties_long 16 0 xs) (λ k h. party_alike k h (λ w a b. g w (omega arith) (omega arith)))
 
 -- ---- four numbers, as a link's tokens and a party's reports are
 four : (u : List ℕ) → length u ≡ 4 → get_or u 0 0 ∷ get_or u 1 0 ∷ get_or u 2 0 ∷ get_or u 3 0 ∷ [] ≡ u
-four [] h = absurd (omega (arith, h))
-four (a ∷ []) h = absurd (omega (arith, h))
-four (a ∷ b ∷ []) h = absurd (omega (arith, h))
-four (a ∷ b ∷ c ∷ []) h = absurd (omega (arith, h))
 four (a ∷ b ∷ c ∷ d ∷ []) h = refl
-four (a ∷ b ∷ c ∷ d ∷ e ∷ u) h = absurd (omega (arith, h))
+four _ h = absurd (omega arith)
 
 -- ---- a link
 module _ (xs : List ℕ) (i : ℕ) (l : Link) (n : length xs ≡ words) (h : i < 32) (u : length l.unread ≡ 4) where
@@ -215,13 +187,11 @@ module _ (xs : List ℕ) (i : ℕ) (l : Link) (n : length xs ≡ words) (h : i <
   link_stored : view ys ≡ replaced (view xs) i l
   unfolding words_from head_from
   link_stored =
-      let g : (k : ℕ) → k < link_base 0 → get_or ys k 0 ≡ get_or xs k 0 = λ k q. before (link_words l) xs (link_base i) 0 k (omega arith) (omega arith) in
-      let hs = words_from_alike ys xs head_size 0 0 (λ k a b. g k (omega arith)) in
-      let ps = parties_alike ys xs 16 0 (λ k a b. g k (omega arith)) in
-      let e : i ≡ 0 + i = omega arith in
-      let front : Same ys xs (link_base 0) (link_base (0 + i)) = λ k a b. before (link_words l) xs (link_base i) 0 k (omega arith) (omega arith) in
-      let back : Same ys xs (link_base (0 + i) + link_size) words = λ k a b. past (link_words l) xs (link_base i) words k (omega arith) (omega arith) in
-      let ls = links_put ys xs l 32 0 i h front (ap (link_at ys) (sym e) ∙ link_there) back in
+      let same = other (link_words l) xs (link_base i) in
+      let hs = head_alike ys xs (λ k a b. same k (λ c d. omega arith)) in
+      let ps = parties_alike ys xs (λ k a b. same k (λ c d. omega arith)) in
+      let ls = but_one fresh_link (view ys).links (view xs).links 32 (links_long 32 0 ys) (links_long 32 0 xs) i l h (link_law ys i h ∙ link_there)
+      (λ k g ne. link_alike ys xs k g (λ w a b. same w (λ c d. ne (omega arith)))) in
       λ z. head_from (hs z) (ps z) (ls z)
 
   pub put_link_law : (r : List ℕ) → r ≡ stored xs (link_base i) (link_words l) → view r ≡ replaced (view xs) i l
@@ -248,12 +218,11 @@ module _ (xs : List ℕ) (p : ℕ) (q : Party) (n : length xs ≡ words) (h : p 
   party_stored : view zs ≡ with_party (view xs) p q
   unfolding words_from head_from
   party_stored =
-      let hs = words_from_alike zs xs head_size 0 0 (λ k a b. before ws xs (party_base p) 0 k (omega arith) (omega arith)) in
-      let e : p ≡ 0 + p = omega arith in
-      let front : Same zs xs (party_base 0) (party_base (0 + p)) = λ k a b. before ws xs (party_base p) 0 k (omega arith) (omega arith) in
-      let back : Same zs xs (party_base (0 + p) + party_size) (party_base (0 + 16)) = λ k a b. past ws xs (party_base p) words k (omega arith) (omega arith) in
-      let ps = parties_put zs xs q 16 0 p h front (ap (party_at zs) (sym e) ∙ party_there) back in
-      let ls = links_alike zs xs 32 0 (λ k a b. past ws xs (party_base p) words k (omega arith) (omega arith)) in
+      let same = other ws xs (party_base p) in
+      let hs = head_alike zs xs (λ k a b. same k (λ c d. omega arith)) in
+      let ps = but_one fresh_party (view zs).parties (view xs).parties 16 (parties_long 16 0 zs) (parties_long 16 0 xs) p q h (party_law zs p h ∙ party_there)
+      (λ k g ne. party_alike zs xs k g (λ w a b. same w (λ c d. ne (omega arith)))) in
+      let ls = links_alike zs xs (λ k a b. same k (λ c d. omega arith)) in
       λ z. head_from (hs z) (ps z) (ls z)
 
   pub put_party_law : (r : List ℕ) → r ≡ stored xs (party_base p) (party_words q) → view r ≡ with_party (view xs) p q
@@ -275,10 +244,10 @@ module _ (xs : List ℕ) (v : ℕ) (n : length xs ≡ words) where
   head_stored : (i : ℕ) → i < head_size → view (set xs i v) ≡ head_from (set (head_at xs) i v) (view xs).parties (view xs).links
   unfolding words_from head_from
   head_stored i h =
-      let past : (a b : ℕ) → head_size ≤ a → Same (set xs i v) xs a b = λ a b m k c d. get_or-set_other xs i k v 0 (λ e. omega (arith, e)) in
+      let same : (k : ℕ) → head_size ≤ k → get_or (set xs i v) k 0 ≡ get_or xs k 0 = λ k a. get_or-set_other xs i k v 0 (λ e. omega (arith, e)) in
       let hs = words_from_set xs v 0 i head_size 0 i (omega arith) h (omega arith) in
-      let ps = parties_alike (set xs i v) xs 16 0 (past (party_base 0) (party_base 16) (omega arith)) in
-      let ls = links_alike (set xs i v) xs 32 0 (past (link_base 0) words (omega arith)) in
+      let ps = parties_alike (set xs i v) xs (λ k a b. same k (omega arith)) in
+      let ls = links_alike (set xs i v) xs (λ k a b. same k (omega arith)) in
       λ z. head_from (hs z) (ps z) (ls z)
 
   pub set_clock_law : view (set xs 0 v) ≡ with_clock (view xs) v

@@ -1,12 +1,7 @@
 -- A party's four reports: as many as it is declared with, and tests of each of them.
 -- Assumes nothing.
-use Prim.Native.Nat.{ℕ}
-use mathlib.Core.Path.{◌≡◌, refl, ap, sym, ◌∙◌}
-use mathlib.Core.Bool.{Bool, not, ◌&&◌, ◌||◌}
-use mathlib.Core.List.{List, [], ◌∷◌}
-use borrow.Author.Tests.{ltb-true, ltb-false, leb-true, leb-false, lt-ltb, le-ltb, lt-leb, le-leb, eq-eqb}
-use lib.Dec.{ltb, leb}
-use lib.ListN.{length, get_or}
+use Rattle.std.proofs.Common.{ℕ, ◌≡◌, refl, ap, sym, ◌∙◌, Bool, not, ◌&&◌, ◌||◌, List, [], ◌∷◌}
+use Rattle.std.proofs.Common.{eq-eqb, ltb, leb, length, get_or, rules}
 use mir.Val.{Val}
 use denote.Laws.{Is}
 use denote.Struct.Declared.{row}
@@ -36,14 +31,10 @@ none_pass f g e [] = refl
 none_pass f g e (r ∷ rs) = test (f r) (λ y. rw (e r, y)) (λ y. rw (e r, y) (none_pass f g e rs))
 
 not_above : (n x : ℕ) → not (ltb n x) ≡ leb x n
-not_above n x = test (ltb n x)
-    (λ y. ap not y ∙ sym (lt-leb x n (ltb-true n x y)))
-    (λ y. ap not y ∙ sym (le-leb x n (ltb-false n x y)))
+not_above n x = search rules
 
 not_from : (n x : ℕ) → ltb x n ≡ not (leb n x)
-not_from n x = test (leb n x)
-    (λ y. rw y (le-ltb x n (leb-true n x y)))
-    (λ y. rw y (lt-ltb x n (leb-false n x y)))
+not_from n x = search rules
 
 -- each at most 14
 pub reports_test : (rs : List ℕ) → length rs ≡ 4

@@ -1,28 +1,20 @@
 -- What a search finds: the first place that passes a test, among the links there are or among the parties.
 -- Assumes nothing.
-use Rattle.std.specs.Prelude.{Option, Some, None, is_some, unwrap_or}
+use Rattle.std.proofs.Common.{Option, Some, None, IfSome, is_some, unwrap_or, ℕ, zero, suc, ◌+◌, ◌≤◌, ◌<◌, ◌≡◌, ap, sym, subst, ◌∙◌}
+use Rattle.std.proofs.Common.{List, [], ◌∷◌, ⊎_elim, Bool, true, false, arith, lt-ltb, le-ltb, ltb-true, ltb-false, ltb, length, drop}
 use Rattle.std.proofs.lemmas.Bool.{cases_lt}
-use Prim.Native.Nat.{ℕ, zero, suc, ◌+◌, ◌-◌, ◌≤◌, ◌<◌}
-use mathlib.Core.Path.{◌≡◌, ap, sym, subst, ◌∙◌}
-use mathlib.Core.List.{List, [], ◌∷◌}
-use mathlib.Core.Logic.{⊎_elim}
-use mathlib.Core.Bool.{Bool, true, false}
-use native.Mathlib.Omega.{arith}
-use borrow.Author.Tests.{lt-ltb, le-ltb, ltb-true, ltb-false}
-use lib.Dec.{ltb}
-use lib.ListN.{length, drop}
 use Rattle.rules.specs.declared.Party.{Party}
 use Rattle.rules.specs.declared.Link.{Link}
 use Rattle.rules.specs.Lists.{first_of, any_of}
 use Rattle.rules.specs.Record.{live, party}
 use Rattle.rules.proofs.Logic.{pick_true, pick_false, test}
-use Rattle.monitor.specs.View.{view, link_in, first_place, place_among, tests_link, tests_party}
+use Rattle.monitor.specs.View.{view, link_in, first_place, place_among}
 use Rattle.monitor.proofs.Lists.{first_within, any_first}
 use Rattle.monitor.proofs.Laws.{next_live, live_long, next_party, parties_long}
 
--- ---- the loop: of the places from one on up to another, one more
-pub one_more : {P : ℕ → Type 0} {from i : ℕ} → ((k : ℕ) → from ≤ k → k < i → P k) → P i → (k : ℕ) → from ≤ k → k < i + 1 → P k
-one_more {P = P} {i = i} h x k a b = ⊎_elim (h k a) (λ c. let e : i ≡ k = omega arith in subst P e x) (cases_lt k i)
+-- ---- the loop: of the places below one, one more
+pub one_more : {P : ℕ → Type 0} {i : ℕ} → ((k : ℕ) → k < i → P k) → P i → (k : ℕ) → k < i + 1 → P k
+one_more {P = P} {i = i} h x k b = ⊎_elim (h k) (λ c. let e : i ≡ k = omega arith in subst P e x) (cases_lt k i)
 
 -- ---- in a list, by the place of the first that passes
 module _ {A : Type 0} (f : A → Bool) where
@@ -53,41 +45,44 @@ module _ {A : Type 0} (f : A → Bool) where
         let r = stands i s h in
         omega arith
 
-    all_fail : (from d : ℕ) → from ≤ first_of f s → from + d ≤ length s → ((k : ℕ) → from ≤ k → k < from + d → f (at k) ≡ false) → from + d ≤ first_of f s
-    all_fail from zero h b each = omega arith
-    all_fail from (suc d) h b each =
-        let r = fails (from + d) (omega arith) (all_fail from d h (omega arith) (λ k a c. each k a (omega arith))) (each (from + d) (omega arith) (omega arith)) in
+    all_fail : (d : ℕ) → d ≤ length s → ((k : ℕ) → k < d → f (at k) ≡ false) → d ≤ first_of f s
+    all_fail zero b each = omega arith
+    all_fail (suc d) b each =
+        let r = fails d (omega arith) (all_fail d (omega arith) (λ k c. each k (omega arith))) (each d (omega arith)) in
         omega arith
 
-    module _ {tested : ℕ → Bool → Type 0} {from n : ℕ} (e : n ≡ length s) (h : from ≤ first_of f s)
+    module _ {tested : ℕ → Bool → Type 0} {n : ℕ} (e : n ≡ length s)
         (asks : (i : ℕ) (b : Bool) → i < n → tested i b → b ≡ f (at i)) where
-      failing : (i : ℕ) → from ≤ i → i ≤ n → ((k : ℕ) → from ≤ k → k < i → tested k false) → i ≤ first_of f s
-      failing i a b each =
-          let r = all_fail from (i - from) h (omega arith) (λ k c d. sym (asks k false (omega arith) (each k c (omega arith)))) in
-          omega arith
+      failing : (i : ℕ) → i ≤ n → ((k : ℕ) → k < i → tested k false) → i ≤ first_of f s
+      failing i b each = all_fail i (omega arith) (λ k d. sym (asks k false (omega arith) (each k d)))
 
-      pub found_place : (r : Option ℕ) → first_place tested from n r → r ≡ place_among n (first_of f s)
+      pub found_place : (r : Option ℕ) → first_place tested n r → r ≡ place_among n (first_of f s)
       found_place None none =
           let w = first_within f s in
-          let r = failing n (omega arith) (omega arith) none in
+          let r = failing n (omega arith) none in
           sym (pick_false _ _ _ (le-ltb (first_of f s) n (omega arith)))
       found_place (Some i) found =
-          let r = passes i (omega (arith, found.1)) (failing i found.0 (omega (arith, found.1)) found.3) (sym (asks i true found.1 found.2)) in
-          sym (ap (place_among n) r ∙ pick_true _ _ _ (lt-ltb i n found.1))
+          let r = passes i (omega (arith, found.0)) (failing i (omega (arith, found.0)) found.2) (sym (asks i true found.0 found.1)) in
+          sym (ap (place_among n) r ∙ pick_true _ _ _ (lt-ltb i n found.0))
+
+-- what was found is below where all end
+pub found_within : (tested : ℕ → Bool → Type 0) {n m : ℕ} (r : Option ℕ) → first_place tested n r → n ≡ m → IfSome r (λ i. i < m)
+found_within tested None found e = tt
+found_within tested (Some i) found e = omega (arith, found.0)
 
 -- ---- among the links there are, and among the parties
-pub found_link : (xs : List ℕ) {tested : ℕ → Bool → Type 0} {from n : ℕ} {r : Option ℕ} → (view xs).count ≤ 32 → n ≡ (view xs).count → first_place tested from n r
-    → (f : Link → Bool) → from ≤ first_of f (live (view xs)) → tests_link tested f (view xs) → r ≡ place_among (view xs).count (first_of f (live (view xs)))
-found_link xs {r = r} h e found f low asks =
+pub found_link : (xs : List ℕ) {tested : ℕ → Bool → Type 0} {n : ℕ} {r : Option ℕ} → (view xs).count ≤ 32 → n ≡ (view xs).count → first_place tested n r
+    → (f : Link → Bool) → ((i : ℕ) (b : Bool) → i < 32 → tested i b → b ≡ f (link_in (view xs) i)) → r ≡ place_among (view xs).count (first_of f (live (view xs)))
+found_link xs {r = r} h e found f asks =
     let l = live_long xs h in
-    found_place f (live (view xs)) (link_in (view xs)) (λ j k. next_live xs j h (omega arith)) (e ∙ sym l) low (λ i b k t. asks i b (omega arith) t) r found
+    found_place f (live (view xs)) (link_in (view xs)) (λ j k. next_live xs j h (omega arith)) (e ∙ sym l) (λ i b k t. asks i b (omega arith) t) r found
     ∙ ap (λ (m : ℕ). place_among m (first_of f (live (view xs)))) e
 
-pub found_party : {tested : ℕ → Bool → Type 0} {r : Option ℕ} → first_place tested 0 16 r
-    → (f : Party → Bool) (xs : List ℕ) → tests_party tested f (view xs) → r ≡ place_among 16 (first_of f (view xs).parties)
-found_party {r = r} found f xs asks =
+pub found_party : (xs : List ℕ) {tested : ℕ → Bool → Type 0} {r : Option ℕ} → first_place tested 16 r
+    → (f : Party → Bool) → ((p : ℕ) (b : Bool) → p < 16 → tested p b → b ≡ f (party (view xs) p)) → r ≡ place_among 16 (first_of f (view xs).parties)
+found_party xs {r = r} found f asks =
     let l = parties_long 16 0 xs in
-    found_place f (view xs).parties (party (view xs)) (λ j k. next_party xs j (omega arith)) (sym l) (omega arith) asks r found
+    found_place f (view xs).parties (party (view xs)) (λ j k. next_party xs j (omega arith)) (sym l) asks r found
 
 -- ---- what it says of the place
 -- one was found: it is the place, and among the n
@@ -127,11 +122,3 @@ module _ (xs : List ℕ) (f : Link → Bool) (h : (view xs).count ≤ 32) {r : O
 module _ (xs : List ℕ) (f : Party → Bool) {r : Option ℕ} (e : r ≡ place_among 16 (first_of f (view xs).parties)) where
   pub party_there : is_some r ≡ any_of f (view xs).parties
   party_there = is_there _ _ e ∙ ap (ltb (first_of f (view xs).parties)) (sym (parties_long 16 0 xs)) ∙ sym (any_first f (view xs).parties)
-
--- of the links, whether one passes
-module _ (xs : List ℕ) (f : Link → Bool) (h : (view xs).count ≤ 32) {r : Option ℕ} (e : r ≡ place_among (view xs).count (first_of f (live (view xs)))) where
-  pub none_passes : r ≡ None → any_of f (live (view xs)) ≡ false
-  none_passes s = sym (link_there xs f h e) ∙ ap is_some s
-
-  pub one_passes : {i : ℕ} → r ≡ Some i → any_of f (live (view xs)) ≡ true
-  one_passes s = sym (link_there xs f h e) ∙ ap is_some s

@@ -1,10 +1,13 @@
 -- Laws of a set of services: how many a set has, and the bit of one.
 -- Assumes nothing.
-use Rattle.std.proofs.Common.{ℕ, zero, suc, ◌+◌, ◌-◌, ◌*◌, ◌/◌, ◌%◌, ◌^◌, ◌≤◌, ◌<◌, ◌≡◌, refl, ap, ap₂, sym, ◌∙◌, Bool, true, false, mod-lt, mod-eq_of_lt, zero-lt-suc, one-mul, suc-mul, mul-le-mul_right, div-mul-le_self, arith, le-leb, eqb-true, eqb, lit<, pow-add, pow_pos, shl_exact, shr_lt}
-use native.Mathlib.Nat.{mod-le, mod-one}
-use borrow.Author.Tests.{eqb-false}
-use lib.Count.{ones, ones_cat}
-use lib.Pow.{mod-pow-add, split}
+use Rattle.std.proofs.Common.{ℕ, zero, suc, ◌+◌, ◌-◌, ◌*◌, ◌/◌, ◌%◌, ◌^◌, ◌≤◌, ◌<◌, ◌≡◌, refl, ap, ap₂, sym, ◌∙◌, Bool}
+use Rattle.std.proofs.Common.{true, false, mod-lt, mod-eq_of_lt, zero-lt-suc, one-mul, suc-mul, mul-le-mul_right}
+use Rattle.std.proofs.Common.{arith, le-leb, eqb-true, eqb, lit<, pow-add, pow_pos, shl_exact, shr_lt, rules}
+use Rattle.std.proofs.Math.Nat.{mod-one}
+use Rattle.std.proofs.lemmas.Bool.{eqb-false}
+use lib.Count.{ones}
+use Rattle.std.proofs.lemmas.Nat.{ones_cat, mod-pow-add}
+use Rattle.std.proofs.Math.Pow.{split}
 use Rattle.rules.specs.Services.{bit_of, in_set, count_to, offered}
 
 -- ---- the ones of a set are as many as the services in it
@@ -49,9 +52,7 @@ module _ (s b : ℕ) where
 
   -- where it is there, it can be taken away
   bit_there : s / 2 ^ b % 2 ≡ 1 → 2 ^ b ≤ s
-  bit_there z =
-      let one : 1 ≤ s / 2 ^ b = omega (arith, mod-le (s / 2 ^ b) 2) in
-      omega (arith, mul-le-mul_right (2 ^ b) one, one-mul (2 ^ b), div-mul-le_self s (2 ^ b))
+  bit_there z = search rules
 
 -- the bit of service a, as the code makes it
 pub shifted : (a : ℕ) → 1 ≤ a → a ≤ 64 → 1 * 2 ^ (a - 1) % 18446744073709551616 ≡ 2 ^ (a - 1)

@@ -1,21 +1,17 @@
 -- A sweep over the live links in place: what f makes of each, at most one, is moved to the front; then the room past the last is
 -- blanked and the count set.
 -- Assumes nothing.
-use Rattle.std.specs.Prelude.{Option, Some, None, option_to_list}
-use Prim.Native.Nat.{ℕ, suc, ◌+◌, ◌-◌, ◌≤◌, ◌<◌}
-use mathlib.Core.Path.{◌≡◌, refl, ap, sym, ◌∙◌}
-use mathlib.Core.Bool.{Bool, false}
-use mathlib.Core.List.{List, [], ◌∷◌, ◌++◌, append-nil, append_assoc}
-use native.Mathlib.Numerals.{add-one}
-use native.Mathlib.Omega.{arith}
-use lib.ListN.{length, take, drop, get_or, set, get_or-replicate, length-drop, take-append-drop, drop_of_length-le}
-use lib.Seq.{paste, paste-zero, paste-suc, take-suc-set, drop-set-lt, drop-drop, get_or-drop, length-take-le, take-take}
+use Rattle.std.proofs.Common.{Option, Some, None, option_to_list, ℕ, suc, ◌+◌, ◌-◌, ◌≤◌, ◌<◌, ◌≡◌, refl, ap, sym, ◌∙◌, Bool, false, List, []}
+use Rattle.std.proofs.Common.{◌∷◌, ◌++◌, append-nil, append_assoc, add-one, arith, length, take, drop, get_or, set, length-drop}
+use Rattle.std.proofs.Common.{take-append-drop, drop_of_length-le, take-suc-set, drop-set-lt, drop-drop, get_or-drop, length-take-le, take-take}
+use Rattle.std.proofs.lemmas.List.{get_or-replicate}
+use Rattle.std.proofs.Math.Seq.{paste, paste-zero, paste-suc}
 use Rattle.rules.specs.declared.Link.{Link}
 use Rattle.rules.specs.declared.Monitor.{Monitor}
 use Rattle.rules.specs.Lists.{first_of, collect}
 use Rattle.rules.specs.Record.{fresh_link, blanks, live, with_contents, with_links, with_count, rebuilt, replaced}
 use Rattle.rules.proofs.Logic.{pick_true, pick_false, test}
-use Rattle.monitor.specs.View.{link_in, blanked, view, keeps_before}
+use Rattle.monitor.specs.View.{link_in, blanked, view}
 use Rattle.monitor.proofs.Lists.{first_within, collect_more}
 use Rattle.monitor.proofs.Laws.{links_long, live_long}
 
@@ -79,12 +75,36 @@ pub record Sweeps (f : Link → List Link) (ws xs : List ℕ) (i j : ℕ) : Type
   pub rest : drop i (view xs).links ≡ drop i (view ws).links
   pub other : view xs ≡ with_links (view ws) (view xs).links
 
--- it starts at a place before which f leaves each as it is
-pub sweep_start : (ws : List ℕ) (i : ℕ) → (view ws).count ≤ 32 → i ≤ (view ws).count
-    → (f : Link → List Link) → keeps_before f (view ws) i → Sweeps f ws ws i i
-sweep_start ws i r h f e =
+-- before the first that the test a takes, f leaves each as it is
+kept_up_to : (f : Link → List Link) (a : Link → Bool) → ((x : Link) → a x ≡ false → f x ≡ x ∷ []) → (l : List Link)
+    → collect f (take (first_of a l) l) ≡ take (first_of a l) l
+unfolding first_of collect
+kept_up_to f a keeps [] = refl
+kept_up_to f a keeps (x ∷ l) = test (a x)
+    (λ e. let zero-th = pick_true (a x) 0 (suc (first_of a l)) e in
+    ap (λ (k : ℕ). collect f (take k (x ∷ l))) zero-th ∙ ap (λ (k : ℕ). take k (x ∷ l)) (sym zero-th))
+    (λ e. ap (λ (k : ℕ). collect f (take k (x ∷ l))) (pick_false (a x) 0 (suc (first_of a l)) e)
+    ∙ ap (λ (r : List Link). r ++ collect f (take (first_of a l) l)) (keeps x e)
+    ∙ ap (λ (r : List Link). x ∷ r) (kept_up_to f a keeps l)
+    ∙ ap (λ (k : ℕ). take k (x ∷ l)) (sym (pick_false (a x) 0 (suc (first_of a l)) e)))
+
+-- it starts there
+pub sweep_start : (ws : List ℕ) (f : Link → List Link) (a : Link → Bool) → ((x : Link) → a x ≡ false → f x ≡ x ∷ []) → {i : ℕ} → (view ws).count ≤ 32
+    → i ≡ first_of a (live (view ws)) → Sweeps f ws ws i i
+sweep_start ws f a keeps {i = i} r e =
+    let k = first_within a (live (view ws)) in
+    let n = live_long ws r in
+    let h : i ≤ (view ws).count = omega arith in
     let t : take i (live (view ws)) ≡ take i (view ws).links = take-take i (view ws).count (view ws).links h in
-    record { room = r; inside = h; behind = omega arith; front = sym (ap (collect f) (sym t) ∙ e ∙ t); rest = refl; other = refl }
+    let kept = ap (λ (i : ℕ). collect f (take i (live (view ws)))) e ∙ kept_up_to f a keeps (live (view ws)) ∙ ap (λ (i : ℕ). take i (live (view ws))) (sym e) in
+    record { room = r; inside = h; behind = omega arith; front = sym (ap (collect f) (sym t) ∙ kept ∙ t); rest = refl; other = refl }
+
+-- the first that is taken is one of the links there are, or past the last
+pub first_inside : (xs : List ℕ) (a : Link → Bool) {at : ℕ} → (view xs).count ≤ 32 → at ≡ first_of a (live (view xs)) → at ≤ (view xs).count
+first_inside xs a h e =
+    let k = first_within a (live (view xs)) in
+    let l = live_long xs h in
+    omega arith
 
 module _ {f : Link → List Link} {ws xs : List ℕ} {i j : ℕ} (g : Sweeps f ws xs i j) where
   -- the link at the place i, of which o is left
@@ -138,27 +158,3 @@ module _ {f : Link → List Link} {ws xs : List ℕ} {i j : ℕ} (g : Sweeps f w
       k
       ∙ ap (rebuilt (view xs)) (g.front ∙ ap (λ (m : ℕ). collect f (take m (view ws).links)) e)
       ∙ ap (λ (m : Monitor). rebuilt m (collect f (live (view ws)))) g.other
-
--- ---- before the first that passes the test a, f leaves each as it is, where it does so with each that does not pass
-kept_up_to : (f : Link → List Link) (a : Link → Bool) → ((x : Link) → a x ≡ false → f x ≡ x ∷ []) → (l : List Link)
-    → collect f (take (first_of a l) l) ≡ take (first_of a l) l
-unfolding first_of collect
-kept_up_to f a keeps [] = refl
-kept_up_to f a keeps (x ∷ l) = test (a x)
-    (λ e. let zero-th = pick_true (a x) 0 (suc (first_of a l)) e in
-    ap (λ (k : ℕ). collect f (take k (x ∷ l))) zero-th ∙ ap (λ (k : ℕ). take k (x ∷ l)) (sym zero-th))
-    (λ e. ap (λ (k : ℕ). collect f (take k (x ∷ l))) (pick_false (a x) 0 (suc (first_of a l)) e)
-    ∙ ap (λ (r : List Link). r ++ collect f (take (first_of a l) l)) (keeps x e)
-    ∙ ap (λ (r : List Link). x ∷ r) (kept_up_to f a keeps l)
-    ∙ ap (λ (k : ℕ). take k (x ∷ l)) (sym (pick_false (a x) 0 (suc (first_of a l)) e)))
-
-pub kept_before : (f : Link → List Link) (a : Link → Bool) → ((x : Link) → a x ≡ false → f x ≡ x ∷ []) → (l : List Link) {at : ℕ} → at ≡ first_of a l
-    → collect f (take at l) ≡ take at l
-kept_before f a keeps l e = ap (λ (i : ℕ). collect f (take i l)) e ∙ kept_up_to f a keeps l ∙ ap (λ (i : ℕ). take i l) (sym e)
-
--- it is one of the places there are, or past the last
-pub first_inside : (xs : List ℕ) (a : Link → Bool) {at : ℕ} → (view xs).count ≤ 32 → at ≡ first_of a (live (view xs)) → at ≤ (view xs).count
-first_inside xs a h e =
-    let k = first_within a (live (view xs)) in
-    let l = live_long xs h in
-    omega arith

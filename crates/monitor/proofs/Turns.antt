@@ -1,23 +1,17 @@
 -- A turn of the loop over a list of calls, and the whole list.
 -- Assumes nothing.
-use Prim.Native.Nat.{ℕ, suc, ◌+◌, ◌-◌, ◌*◌, ◌%◌, ◌≤◌, ◌<◌}
-use mathlib.Core.Path.{◌≡◌, ap, sym, ◌∙◌}
-use mathlib.Core.Bool.{true}
-use mathlib.Core.List.{List, [], ◌++◌, append_assoc}
-use native.Mathlib.Nat.{add-zero}
-use native.Mathlib.Omega.{arith}
-use borrow.Author.Tests.{eq-eqb, le-leb}
-use lib.ListN.{length, take, drop, get_or, length-append, length-drop}
-use lib.Seq.{get_or-drop, drop-drop, take_at, drop_at, length-take-le}
-use lib.IntN.{ℤ}
+use Rattle.std.proofs.Common.{ℕ, zero, suc, ◌+◌, ◌-◌, ◌*◌, ◌≤◌, ◌<◌, ◌≡◌, refl, ap, sym, ◌∙◌, subst, true, List, []}
+use Rattle.std.proofs.Common.{◌++◌, append_assoc, append-nil, arith, length, take, drop, get_or, length-append}
+use Rattle.std.proofs.Common.{length-drop, take-append-drop, drop-drop, take_at, drop_at, length-take-le, get_or-take, ℤ}
+use Rattle.std.specs.Simd.{first_chunks}
 use Rattle.rules.specs.declared.Monitor.{Monitor}
 use Rattle.rules.specs.declared.Stepped.{Stepped}
-use Rattle.rules.specs.Codes.{list_run}
 use Rattle.rules.specs.Sound.{sound}
 use Rattle.rules.specs.Step.{call_of}
 use Rattle.rules.specs.declared.Call.{Call}
-use Rattle.rules.specs.Run.{call_at, places_of, ran_of, answers_of, calls_in, listed, list_of}
-use Rattle.rules.proofs.Logic.{pick_true}
+use Rattle.rules.specs.declared.Answer.{Answer}
+use Rattle.monitor.specs.View.{stepped}
+use Rattle.rules.specs.Run.{call_at, places_of, ran_of, answers_of, calls_in}
 
 -- one call more: the step at the front, and the rest
 answers_more : (k : ℕ) (m : Monitor) (cs : List ℕ) (s : Stepped) → s ≡ call_of m (call_at cs)
@@ -29,78 +23,110 @@ ran_more : (k : ℕ) (m : Monitor) (cs : List ℕ) (s : Stepped) → s ≡ call_
 unfolding ran_of
 ran_more k m cs s e = ap (λ (t : Stepped). ran_of k t.monitor (drop 6 cs)) (sym e)
 
-pub answers_none : (k : ℕ) (m : Monitor) (cs : List ℕ) → k ≡ 0 → answers_of k m cs ≡ []
-unfolding answers_of
-answers_none k m cs e = rw e
+-- `n` of `count` calls have been run: all from the record `m`, and the `more` that are left from `cur`. Their answers stand in `out`, which was `out₀`.
+pub record Run (m : Monitor) (count : ℕ) (numbers : List ℕ) (out₀ out : List ℤ) (cur : Monitor) (n more : ℕ) (left : List ℕ) : Type 0 where
+  pub room : count * 6 ≤ length out₀
+  pub counted : count ≡ n + more
+  pub fine : sound cur ≡ true
+  pub long : length out ≡ length out₀
+  pub kept : drop (n * 6) out ≡ drop (n * 6) out₀
+  pub ran : ran_of count m numbers ≡ ran_of more cur left
+  pub said : answers_of count m numbers ≡ take (n * 6) out ++ answers_of more cur left
 
-pub ran_none : (k : ℕ) (m : Monitor) (cs : List ℕ) → k ≡ 0 → ran_of k m cs ≡ m
-unfolding ran_of
-ran_none k m cs e = rw e
+module _ {m : Monitor} {count : ℕ} {numbers left : List ℕ} {out₀ out : List ℤ} {cur : Monitor} {n : ℕ} where
+  pub run_one : (more : ℕ) → Run m count numbers out₀ out cur n (suc more) left
+      → (r : Answer) (cur' : Monitor) → stepped r cur' ≡ call_of cur (call_at left) → sound cur' ≡ true
+      → (after : List ℤ) → after ≡ take (n * 6) out ++ places_of r ++ drop (n * 6 + 6) out
+      → Run m count numbers out₀ after cur' (n + 1) more (drop 6 left)
+  unfolding places_of
+  run_one more k r cur' same fits after put =
+      let done : List ℤ = take (n * 6) out ++ places_of r in
+      let room = k.room in
+      let long = k.long in
+      let counted = k.counted in
+      let before = length-take-le (n * 6) out (omega arith) in
+      let front : length done ≡ (n + 1) * 6 = length-append (take (n * 6) out) (places_of r) ∙ omega arith in
+      let six : n * 6 + 6 ≡ (n + 1) * 6 = omega arith in
+      record {
+        room = room;
+        counted = omega arith;
+        fine = fits;
+        long =
+            ap length put
+            ∙ length-append done (drop (n * 6 + 6) out)
+            ∙ omega (arith, length-drop (n * 6 + 6) out);
+        kept =
+            ap (drop ((n + 1) * 6)) put
+            ∙ drop_at done (drop (n * 6 + 6) out) ((n + 1) * 6) front
+            ∙ sym (drop-drop 6 (n * 6) out)
+            ∙ ap (drop 6) k.kept
+            ∙ drop-drop 6 (n * 6) out₀
+            ∙ ap (λ (j : ℕ). drop j out₀) six;
+        ran = k.ran ∙ ran_more more cur left (stepped r cur') same;
+        said =
+            k.said
+            ∙ ap (λ (l : List ℤ). take (n * 6) out ++ l) (answers_more more cur left (stepped r cur') same)
+            ∙ sym (append_assoc (take (n * 6) out) (places_of r) (answers_of more cur' (drop 6 left)))
+            ∙ ap (λ (l : List ℤ). l ++ answers_of more cur' (drop 6 left))
+            (sym (ap (take ((n + 1) * 6)) put ∙ take_at done (drop (n * 6 + 6) out) ((n + 1) * 6) front));
+      }
 
--- the call at place j of the list is the one at the front of what is left
-pub at_front : (cs : List ℕ) (j : ℕ)
-    → let w : ℕ → ℕ = λ k. get_or cs (j + k) 0 in
-    ◌≡◌ {A = Call} (record { clock = get_or cs j 0; party = w 1; kind = w 2; a = w 3; b = w 4; c = w 5 }) (call_at (drop j cs))
+  -- none is left to run
+  module _ (k : Run m count numbers out₀ out cur n 0 left) where
+    run_over : count ≡ n
+    run_over = omega (arith, k.counted)
+
+    pub over_ran : ran_of count m numbers ≡ cur
+    unfolding ran_of
+    over_ran = k.ran
+
+    pub over_said : answers_of count m numbers ++ drop (count * 6) out₀ ≡ out
+    unfolding answers_of
+    over_said =
+        ap (λ (l : List ℤ). l ++ drop (count * 6) out₀) (k.said ∙ append-nil (take (n * 6) out))
+        ∙ ap (λ (j : ℕ). take (n * 6) out ++ drop (j * 6) out₀) run_over
+        ∙ ap (λ (l : List ℤ). take (n * 6) out ++ l) (sym k.kept)
+        ∙ take-append-drop (n * 6) out
+
+-- ---- the loop over a lent list's calls
+
+-- `i` calls of the list have been run
+abbrev pub Runs : Monitor → List ℕ → List ℤ → List ℤ → Monitor → ℕ → Type 0
+Runs m cs out₀ out cur i = Run m (calls_in cs) cs out₀ out cur i (calls_in cs - i) (drop (i * 6) cs)
+
+pub runs_none : (m : Monitor) (cs : List ℕ) (out : List ℤ) → calls_in cs * 6 ≤ length out → sound m ≡ true → Runs m cs out out m 0
+runs_none m cs out room h =
+    let none : calls_in cs - 0 ≡ calls_in cs = omega arith in
+    rw none (record { room = room; counted = omega arith; fine = h; long = refl; kept = refl; ran = refl; said = refl })
+
+call_taken : (cs : List ℕ) → call_at (take 6 cs) ≡ call_at cs
 unfolding call_at
-at_front cs j = simp (get_or-drop, add-zero)
+call_taken cs =
+    let p : (j : ℕ) → j < 6 → get_or (take 6 cs) j 0 ≡ get_or cs j 0 = λ j h. get_or-take 6 cs j 0 h in
+    simp (p 0 (omega arith), p 1 (omega arith), p 2 (omega arith), p 3 (omega arith), p 4 (omega arith), p 5 (omega arith))
 
-module _ (n i : ℕ) (h : i < n) (calls : List ℕ) (cur m₀ : Monitor) (s : Stepped) (e : s ≡ call_of cur (call_at (drop (i * 6) calls))) where
-  left : n - i ≡ suc (n - (i + 1))
-  left = omega arith
+chunk_is : (k i : ℕ) (cs : List ℕ) → i < k → get_or (first_chunks 6 k cs) i [] ≡ take 6 (drop (i * 6) cs)
+chunk_is zero i cs h = absurd (omega arith)
+chunk_is (suc k) zero cs h = refl
+chunk_is (suc k) (suc i) cs h = chunk_is k i (drop 6 cs) (omega arith) ∙ ap (take 6) (drop-drop (i * 6) 6 cs ∙ ap (λ (n : ℕ). drop n cs) (omega arith))
 
-  rest : drop 6 (drop (i * 6) calls) ≡ drop ((i + 1) * 6) calls
-  rest =
-      let q : i * 6 + 6 ≡ (i + 1) * 6 = omega arith in
-      drop-drop 6 (i * 6) calls ∙ ap (λ (k : ℕ). drop k calls) q
+module _ {m : Monitor} {cs : List ℕ} {out₀ out : List ℤ} {cur : Monitor} {i : ℕ} (k : Runs m cs out₀ out cur i) where
+  pub runs_one : i < calls_in cs → (c : Call) → c ≡ call_at (get_or (first_chunks 6 (calls_in cs) cs) i [])
+      → (r : Answer) (cur' : Monitor) → stepped r cur' ≡ call_of cur c → sound cur' ≡ true
+      → (after : List ℤ) → after ≡ take (i * 6) out ++ places_of r ++ drop (i * 6 + 6) out
+      → Runs m cs out₀ after cur' (i + 1)
+  runs_one h c e r cur' same fits after put =
+      let left : calls_in cs - i ≡ suc (calls_in cs - (i + 1)) = omega arith in
+      let six : i * 6 + 6 ≡ (i + 1) * 6 = omega arith in
+      let call = e ∙ ap call_at (chunk_is (calls_in cs) i cs h) ∙ call_taken (drop (i * 6) cs) in
+      let next = run_one (calls_in cs - (i + 1)) (subst (λ (j : ℕ). Run m (calls_in cs) cs out₀ out cur i j (drop (i * 6) cs)) left k)
+      r cur' (same ∙ ap (call_of cur) call) fits after put
+      in
+      subst (λ (l : List ℕ). Run m (calls_in cs) cs out₀ after cur' (i + 1) (calls_in cs - (i + 1)) l)
+      (drop-drop 6 (i * 6) cs ∙ ap (λ (j : ℕ). drop j cs) six) next
 
-  pub turn_ran : ran_of (n - i) cur (drop (i * 6) calls) ≡ ran_of n m₀ calls → ran_of (n - (i + 1)) s.monitor (drop ((i + 1) * 6) calls) ≡ ran_of n m₀ calls
-  turn_ran v =
-      ap (ran_of (n - (i + 1)) s.monitor) (sym rest)
-      ∙ sym (ran_more (n - (i + 1)) cur (drop (i * 6) calls) s e)
-      ∙ ap (λ (k : ℕ). ran_of k cur (drop (i * 6) calls)) (sym left)
-      ∙ v
-
-  module _ (out out₀ out' : List ℤ) (room : n * 6 ≤ length out) (w : out' ≡ take (i * 6) out ++ places_of s.answer ++ drop (i * 6 + 6) out) where
-    next : (i + 1) * 6 ≡ i * 6 + 6
-    next = omega arith
-
-    head_length : length (take (i * 6) out ++ places_of s.answer) ≡ (i + 1) * 6
-    unfolding places_of
-    head_length =
-        let t : length (take (i * 6) out) ≡ i * 6 = length-take-le (i * 6) out (omega arith) in
-        let u : length (take (i * 6) out ++ places_of s.answer) ≡ length (take (i * 6) out) + 6 = length-append (take (i * 6) out) (places_of s.answer) in
-        omega arith
-
-    pub turn_length : length out' ≡ length out
-    turn_length =
-        let a = ap length w ∙ length-append (take (i * 6) out ++ places_of s.answer) (drop (i * 6 + 6) out) in
-        let b : length (drop (i * 6 + 6) out) ≡ length out - (i * 6 + 6) = length-drop (i * 6 + 6) out in
-        let d : length (take (i * 6) out ++ places_of s.answer) ≡ (i + 1) * 6 = head_length in
-        omega arith
-
-    pub turn_answers : take (i * 6) out ++ answers_of (n - i) cur (drop (i * 6) calls) ≡ answers_of n m₀ calls
-        → take ((i + 1) * 6) out' ++ answers_of (n - (i + 1)) s.monitor (drop ((i + 1) * 6) calls) ≡ answers_of n m₀ calls
-    turn_answers v =
-        let done = take_at (take (i * 6) out ++ places_of s.answer) (drop (i * 6 + 6) out) ((i + 1) * 6) head_length in
-        ap (λ (r : List ℤ). r ++ answers_of (n - (i + 1)) s.monitor (drop ((i + 1) * 6) calls)) (ap (take ((i + 1) * 6)) w ∙ done)
-        ∙ append_assoc (take (i * 6) out) (places_of s.answer) (answers_of (n - (i + 1)) s.monitor (drop ((i + 1) * 6) calls))
-        ∙ ap (λ (r : List ℤ). take (i * 6) out ++ r)
-        (ap (λ (cs : List ℕ). places_of s.answer ++ answers_of (n - (i + 1)) s.monitor cs) (sym rest)
-        ∙ sym (answers_more (n - (i + 1)) cur (drop (i * 6) calls) s e)
-        ∙ ap (λ (k : ℕ). answers_of k cur (drop (i * 6) calls)) (sym left))
-        ∙ v
-
-    pub turn_past : drop (i * 6) out ≡ drop (i * 6) out₀ → drop ((i + 1) * 6) out' ≡ drop ((i + 1) * 6) out₀
-    turn_past v =
-        ap (drop ((i + 1) * 6)) w
-        ∙ drop_at (take (i * 6) out ++ places_of s.answer) (drop (i * 6 + 6) out) ((i + 1) * 6) head_length
-        ∙ sym (drop-drop 6 (i * 6) out) ∙ ap (drop 6) v ∙ drop-drop 6 (i * 6) out₀
-        ∙ ap (λ (k : ℕ). drop k out₀) (sym next)
-
--- a list that is neither cut short nor short of room, on a sound record
-pub list_ran : (m : Monitor) (cs : List ℕ) (out : List ℤ) → length cs % 6 ≡ 0 → length cs ≤ length out → sound m ≡ true
-    → (m' : Monitor) (out' : List ℤ) → m' ≡ ran_of (calls_in cs) m cs → out' ≡ answers_of (calls_in cs) m cs ++ drop (calls_in cs * 6) out
-    → listed list_run m' out' ≡ list_of m cs out
-unfolding list_of
-list_ran m cs out six room fine m' out' e f =
-    (λ i. listed list_run (e i) (f i)) ∙ sym (pick_true _ _ _ (eq-eqb _ _ six) ∙ pick_true _ _ _ (le-leb _ _ room) ∙ pick_true _ _ _ fine)
+  pub runs_all : calls_in cs ≤ i → (cur ≡ ran_of (calls_in cs) m cs) × (out ≡ answers_of (calls_in cs) m cs ++ drop (calls_in cs * 6) out₀)
+  runs_all h =
+      let none : calls_in cs - i ≡ 0 = omega arith in
+      let all = subst (λ (j : ℕ). Run m (calls_in cs) cs out₀ out cur i j (drop (i * 6) cs)) none k in
+      (sym (over_ran all), sym (over_said all))

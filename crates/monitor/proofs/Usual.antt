@@ -1,17 +1,8 @@
 -- What the proofs of this crate name, passed on.
 -- Assumes nothing.
-pub use Prim.Native.Nat.{ℕ, suc, ◌+◌, ◌-◌, ◌*◌, ◌%◌, ◌≤◌, ◌<◌}
-pub use mathlib.Core.Path.{◌≡◌, refl, ap, ap₂, sym, ◌∙◌}
-pub use mathlib.Core.List.{List, [], ◌∷◌, ◌++◌}
-pub use mathlib.Core.Bool.{Bool, true, false, ◌&&◌, ◌||◌}
-pub use native.Mathlib.Omega.{arith}
-pub use borrow.Author.Rules.{rules}
-pub use borrow.Author.Tests.{ne_eqb, le-leb, lt-leb}
-pub use lib.Dec.{eqb, ltb, leb}
-pub use lib.ListN.{length, take, drop, get_or, set}
-pub use lib.IntN.{ℤ}
-pub use mir.Syntax.{w64}
-pub use mir.Val.{to_z, of_z}
+pub use Rattle.std.proofs.Common.{ℕ, suc, ◌+◌, ◌-◌, ◌*◌, ◌%◌, ◌≤◌, ◌<◌, ◌≡◌, refl, ap, ap₂, sym, ◌∙◌, List, [], ◌∷◌, ◌++◌, Bool, true, false}
+pub use Rattle.std.proofs.Common.{◌&&◌, ◌||◌, arith, rules, ne_eqb, le-leb, eqb, ltb, leb, length, take, drop, get_or, set, ℤ, w64, to_z, of_z}
+pub use Rattle.std.proofs.lemmas.Bool.{lt-leb}
 pub use Rattle.rules.specs.declared.Party.{Party}
 pub use Rattle.rules.specs.declared.Link.{Link}
 pub use Rattle.rules.specs.declared.Monitor.{Monitor}
@@ -33,7 +24,7 @@ unfoldable pub use Rattle.rules.specs.Run.{places_of, ran_of, answers_of, list_o
 unfoldable pub use Rattle.rules.specs.Equal.{same_party, same_link, all_same}
 pub use Rattle.monitor.specs.Words.{words}
 pub use Rattle.monitor.specs.View.{view, link_in, ruled_by, stepped}
-unfoldable pub use Rattle.monitor.specs.View.{link_at, party_at, of_tx}
+unfoldable pub use Rattle.monitor.specs.View.{link_at, party_at}
 pub use Rattle.rules.proofs.Logic.{pick_true, pick_false}
 pub use Rattle.monitor.proofs.Laws.{links_long, parties_long, link_law, party_law, end_live}
 pub use Rattle.monitor.proofs.Laws.{end_party}

@@ -6,7 +6,8 @@ use Rattle.monitor.specs.declared.kinds.Kind.{Kind}
 use Rattle.monitor.specs.declared.kinds.Kind.TheVariants.{TxOpen, TxClose, TxBegin, TxCommit, TxRollback, TxInfo, TxSetCommitReturn, TxSetTransactionControl}
 use Rattle.monitor.specs.declared.kinds.Kind.TheVariants.{TxSetTransactionTimeout, TpAdvertise, TpUnadvertise, TpACall, TpConnect, Dispatch, TpGetRply, TpCancel}
 use Rattle.monitor.specs.declared.kinds.Kind.TheVariants.{TpSend, TpRecv, TpDiscon, TpReturn, Terminate, Report, SetRights}
-use Rattle.monitor.specs.declared.kinds.UnknownKind.{UnknownKind}
+use Rattle.rules.specs.declared.refusal.Refusal.{Refusal}
+use Rattle.rules.specs.declared.refusal.Refusal.TheVariants as why
 
 abbrev pub kind_number : Kind → ℕ
 kind_number TxOpen = 1
@@ -33,6 +34,6 @@ kind_number Terminate = 21
 kind_number Report = 22
 kind_number SetRights = 23
 
--- the kind of that number, or an error at a number that no kind has
-abbrev pub Decodes : ℕ → Result Kind UnknownKind → Type 0
-Decodes n r = MatchResult r (λ kind. (kind_number kind ≡ n) × (is_kind n ≡ true)) (λ _. is_kind n ≡ false)
+-- the kind of that number, or the refusal of a number that no kind has
+abbrev pub Decodes : ℕ → Result Kind Refusal → Type 0
+Decodes n r = MatchResult r (λ kind. (kind_number kind ≡ n) × (is_kind n ≡ true)) (λ e. (e ≡ why.UnknownKind) × (is_kind n ≡ false))

@@ -1,6 +1,6 @@
 -- The record of document 01 read off its words, every one of them, and what a rule tells beside it.
 -- Assumes nothing.
-use Rattle.std.specs.Prelude.{Result, Ok, Err, ℕ, zero, suc, ◌-◌, ◌<◌, ◌≤◌, ◌≡◌, Bool, true, false, List, [], ◌∷◌, Option, Some, None, MatchOption, option_to_list, eqb, ltb, length, get_or, take, drop, ℤ}
+use Rattle.std.specs.Prelude.{Result, Ok, Err, ℕ, zero, suc, ◌-◌, ◌<◌, ◌≡◌, Bool, true, false, List, [], ◌∷◌, Option, Some, None, MatchOption, option_to_list, eqb, ltb, length, get_or, drop, ℤ}
 use Rattle.std.proofs.Math.Seq.{paste}
 use Rattle.rules.specs.declared.Party.{Party}
 use Rattle.rules.specs.declared.Link.{Link}
@@ -9,13 +9,13 @@ use Rattle.rules.specs.declared.Ruled.{Ruled}
 use Rattle.rules.specs.declared.Answer.{Answer}
 use Rattle.rules.specs.declared.Stepped.{Stepped}
 use Rattle.rules.specs.Choice.{pick, same}
-use Rattle.rules.specs.Lists.{collect}
 use Rattle.rules.specs.Codes.{tp_accepted, list_run, code_of}
 use Rattle.rules.specs.declared.refusal.Refusal.{Refusal}
-use Rattle.rules.specs.Record.{ruled, fresh_link, blanks, party, live, with_links, replaced}
+use Rattle.rules.specs.Record.{ruled, fresh_link, blanks, party, live, place_of, with_origin, with_links, replaced}
 use Rattle.rules.specs.Transaction.{owner_of, late}
 use Rattle.monitor.specs.Words.{words, read_link, read_party}
 use Rattle.monitor.specs.declared.Told.{Told}
+use Rattle.monitor.specs.declared.found.Found.{Found}
 
 -- the words of any record: as many as there are places, and each of 32 bits
 pub record WordsOf (xs : List ℕ) : Type 0 where
@@ -54,13 +54,17 @@ live_at m i = get_or (live m) i fresh_link
 unfoldable pub of_tx : ℕ → Link → Bool
 of_tx t l = same l.tx t
 
+-- the link found stands there in the record, as the first with its number
+abbrev pub Stands : Monitor → Found → Type 0
+Stands m found = (found.place ≡ place_of m found.link.number) × (found.place < m.count)
+
 -- ---- what a search finds
--- the first place from one up to another that the code's test passes, or none
-abbrev pub first_place : (ℕ → Bool → Type 0) → ℕ → ℕ → Option ℕ → Type 0
-first_place tested from to found =
+-- the first place below `to` that the code's test passes, or none
+abbrev pub first_place : (ℕ → Bool → Type 0) → ℕ → Option ℕ → Type 0
+first_place tested to found =
     MatchOption found
-    ((k : ℕ) → from ≤ k → k < to → tested k false)
-    (λ i. (from ≤ i) × (i < to) × tested i true × ((k : ℕ) → from ≤ k → k < i → tested k false))
+    ((k : ℕ) → k < to → tested k false)
+    (λ i. (i < to) × tested i true × ((k : ℕ) → k < i → tested k false))
 
 -- the place k where it is one of n, and none past them
 abbrev pub place_among : ℕ → ℕ → Option ℕ
@@ -75,23 +79,21 @@ abbrev pub late_at : Monitor → Option ℕ → Bool
 late_at m None = false
 late_at m (Some p) = late m.clock (party m p)
 
--- the code's test asks of each place what f asks of the link, or of the party, that stands there
-abbrev pub tests_link : (ℕ → Bool → Type 0) → (Link → Bool) → Monitor → Type 0
-tests_link tested f m = (i : ℕ) (b : Bool) → i < 32 → tested i b → b ≡ f (link_in m i)
-
-abbrev pub tests_party : (ℕ → Bool → Type 0) → (Party → Bool) → Monitor → Type 0
-tests_party tested f m = (i : ℕ) (b : Bool) → i < 16 → tested i b → b ≡ f (party m i)
+-- the code's test asks what f asks
+abbrev pub tests : {A : Type 0} → (A → Bool → Type 0) → (A → Bool) → Type 0
+tests {A = A} tested f = (x : A) (b : Bool) → tested x b → b ≡ f x
 
 -- ---- what a sweep leaves
--- f leaves each link before the place `from` as it is
-abbrev pub keeps_before : (Link → List Link) → Monitor → ℕ → Type 0
-keeps_before f m from = collect f (take from (live m)) ≡ take from (live m)
-
--- what the code leaves of a link is what f leaves of it
-abbrev pub leaves : (Link → Option Link → Type 0) → (Link → List Link) → Type 0
-leaves left f = (l : Link) (r : Option Link) → left l r → option_to_list r ≡ f l
+-- f leaves of each link that the test a takes what the code leaves of it, and the others as they are
+pub record Leaves (left : Link → Option Link → Type 0) (a : Link → Bool) (f : Link → List Link) : Type 0 where
+  pub taken : (l : Link) (r : Option Link) → a l ≡ true → left l r → option_to_list r ≡ f l
+  pub kept : (l : Link) → a l ≡ false → f l ≡ l ∷ []
 
 -- ---- parts of the record changed
+-- the link with the number n
+abbrev pub with_number : Link → ℕ → Link
+with_number l n = with_origin l n l.kind l.originator l.service l.tx l.first
+
 -- the link at the place i, if there is one, becomes l
 abbrev pub changed_at : Monitor → ℕ → Link → Monitor
 changed_at m i l = pick (ltb i m.count) (replaced m i l) m

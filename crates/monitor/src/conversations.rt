@@ -1,15 +1,16 @@
 // Kinds 17 to 19: send, receive and disconnect on a conversation.
 ghost use Rattle.std.specs.Prelude.{◌≡◌, ◌<◌, ◌≤◌};
-ghost use Rattle.rules.specs.Record.{place_of, notified, with_sent, without_oldest};
+ghost use Rattle.rules.specs.Record.{changed, notified, with_sent, without_oldest};
 ghost use Rattle.rules.specs.Conversations.{originator_end, server_end, any_end, hears_disconnect, hears_return, end_side, is_sender, tells_disconnect};
-ghost use Rattle.rules.specs.Conversations.{tells_return, send_on, send_of, carries_grant, received, receive_on, receive_of, disconnected_at, disconnect_of};
-ghost use Rattle.monitor.specs.View.{view, ruled_by, told_of};
+ghost use Rattle.rules.specs.Conversations.{tells_return, send_of, carries_grant, received, receive_of, disconnected_at, disconnect_of};
+ghost use Rattle.monitor.specs.View.{view, Stands, ruled_by, told_of};
 
 use super::Told;
-use super::links::{accept, coded, disconnect_link, find_link, is_own_end, remove_at};
+use super::found::Found;
+use super::links::{accept, coded, disconnect_link, find_link, is_own_end, remove};
 use super::party::PartyNumber;
 use super::transaction::{is_expired, set_rollback_only};
-use super::words::{WORDS, link_at, put_link};
+use super::words::{WORDS, put_link};
 use rules::{Link, Refusal, codes};
 
 // Is it an open conversation end of party p's, as its originator?
@@ -25,7 +26,7 @@ pub(crate) fn is_originator_end(p: PartyNumber, l: Link) -> bool
 pub(crate) fn is_server_end(p: PartyNumber, l: Link) -> bool
     ensures { result ≡ server_end p.index l }
 {
-    l.kind == 1 && l.state == 1 && l.server as usize == p.index && l.disconnected != 2
+    l.kind == 1 && l.state == 1 && l.server == u32::from(p) && l.disconnected != 2
 }
 
 #[tactic(auto, unfolding(rules::specs::Conversations::any_end))]
@@ -49,7 +50,7 @@ pub(crate) fn hears_return(p: PartyNumber, l: Link) -> bool
     is_originator_end(p, l) && l.state == 2 && l.filled == 0
 }
 
-// Party p's end: 0 the originator's, 1 the server's.
+// Party p's end: 0 the originator's, 1 the server's; a number, since the record's `sender` is compared with it, and becomes it.
 #[tactic(auto, unfolding(rules::specs::Conversations::end_side, rules::specs::Choice::pick))]
 pub(crate) fn end_side(p: PartyNumber, l: Link) -> u32
     ensures { result ≡ end_side p.index l }
@@ -73,26 +74,26 @@ pub(crate) fn notify(l: Link) -> Link
     }
 }
 
-// The server is notified that the link a, which stands at the place i, was disconnected.
+// The server of the link found is notified that it was disconnected.
 #[tactic(auto, using(crate::proofs::Laws::replaced_of), unfolding(rules::specs::Conversations::tells_disconnect))]
-pub(crate) fn tell_disconnect(s: &mut [u32; WORDS], i: usize, a: u32, l: Link) -> Told
-    requires { ((view s.old).count ≤ 32) × (i ≡ place_of (view s.old) a) × (i < (view s.old).count) }
-    ensures { ruled_by result (view s.new) ≡ tells_disconnect (view s.old) a l }
+pub(crate) fn tell_disconnect(s: &mut [u32; WORDS], found: Found) -> Told
+    requires { ((view s.old).count ≤ 32) × Stands (view s.old) found }
+    ensures { ruled_by result (view s.new) ≡ tells_disconnect (view s.old) found.link.number found.link }
 {
-    put_link(s, i, notify(l));
+    put_link(s, found.place, notify(found.link));
     Told {
         event: codes::TPEV_DISCONIMM,
         ..coded(codes::TPEEVENT)
     }
 }
 
-// The originator learns how the service returned, and the link a, which stands at the place i, goes.
+// The originator learns how the service returned, and its link l goes.
 #[tactic(auto, unfolding(rules::specs::Conversations::tells_return))]
-pub(crate) fn tell_return(s: &mut [u32; WORDS], i: usize, a: u32, l: Link) -> Told
-    requires { ((view s.old).count ≤ 32) × (i ≡ place_of (view s.old) a) }
-    ensures { ruled_by result (view s.new) ≡ tells_return (view s.old) a l }
+pub(crate) fn tell_return(s: &mut [u32; WORDS], l: Link) -> Told
+    requires { (view s.old).count ≤ 32 }
+    ensures { ruled_by result (view s.new) ≡ tells_return (view s.old) l.number l }
 {
-    remove_at(s, i, a);
+    remove(s, l.number);
     Told {
         event: l.outcome,
         token: l.ending,
@@ -100,12 +101,13 @@ pub(crate) fn tell_return(s: &mut [u32; WORDS], i: usize, a: u32, l: Link) -> To
     }
 }
 
-// The link with a token more, and with b = 1 the grant under way.
+// The link with a token more, and with b = 1 the grant under way, as the record has it.
 pub(crate) fn with_sent(l: Link, b: u32, c: u32) -> Link
     requires { (b ≤ 1) × (l.filled < 4) }
     ensures { result ≡ with_sent l b c }
 {
     let mut unread = l.unread;
+    // by `as`: Rust has no `From` from 32 bits to usize, and `try_from` cannot fail
     unread[l.filled as usize] = c;
     Link {
         granting: b,
@@ -115,47 +117,17 @@ pub(crate) fn with_sent(l: Link, b: u32, c: u32) -> Link
     }
 }
 
-// Kind 17, on the link l with the number a, which stands at the place i.
-#[tactic(auto, using(crate::proofs::Laws::replaced_of), unfolding(rules::specs::Conversations::send_on, rules::specs::Choice::pick))]
-pub(crate) fn send_on(
-    s: &mut [u32; WORDS],
-    p: PartyNumber,
-    i: usize,
-    a: u32,
-    b: u32,
-    c: u32,
-    l: Link,
-) -> Result<Told, Refusal>
-    requires { ((view s.old).count ≤ 32) × (i ≡ place_of (view s.old) a) × (i < (view s.old).count) }
-    ensures { ruled_by (told_of result) (view s.new) ≡ send_on (view s.old) p.index a b c l }
+// The token goes out on the link found.
+#[tactic(auto, using(crate::proofs::Laws::replaced_of))]
+pub(crate) fn send(s: &mut [u32; WORDS], found: Found, b: u32, c: u32)
+    requires { ((view s.old).count ≤ 32) × Stands (view s.old) found × (b ≤ 1) × (found.link.filled < 4) }
+    ensures { view s.new ≡ changed (view s.old) found.link.number (with_sent found.link b c) }
 {
-    if !is_any_end(p, l) {
-        return Err(Refusal::NoSuchEnd);
-    }
-    if b > 1 {
-        return Err(Refusal::BadArgument);
-    }
-    if is_expired(s, l.tx) {
-        return Err(Refusal::TimedOut);
-    }
-    if hears_disconnect(p, l) {
-        return Ok(tell_disconnect(s, i, a, l));
-    }
-    if hears_return(p, l) && l.outcome != codes::TPEV_SVCSUCC {
-        return Ok(tell_return(s, i, a, l));
-    }
-    if !(is_sender(p, l) && l.granting == 0) {
-        return Err(Refusal::NotAllowedNow);
-    }
-    if l.filled >= Link::UNREAD {
-        return Err(Refusal::UnreadFull);
-    }
-    put_link(s, i, with_sent(l, b, c));
-    Ok(accept(0))
+    put_link(s, found.place, with_sent(found.link, b, c));
 }
 
 // Kind 17.
-#[tactic(auto, using(crate::proofs::Search::found_some, crate::proofs::Talking::no_link, crate::proofs::Talking::stands), unfolding(rules::specs::Conversations::send_of, rules::specs::Conversations::send_on, rules::specs::Conversations::any_end, rules::specs::Conversations::originator_end, rules::specs::Conversations::server_end, rules::specs::Choice::pick))]
+#[tactic(auto, unfolding(rules::specs::Conversations::send_of, rules::specs::Conversations::send_on, rules::specs::Conversations::any_end, rules::specs::Conversations::originator_end, rules::specs::Conversations::server_end, rules::specs::Record::own_end, rules::specs::Choice::pick))]
 pub(crate) fn tpsend(
     s: &mut [u32; WORDS],
     p: PartyNumber,
@@ -166,11 +138,30 @@ pub(crate) fn tpsend(
     requires { (view s.old).count ≤ 32 }
     ensures { ruled_by (told_of result) (view s.new) ≡ send_of (view s.old) p.index a b c }
 {
-    let Some(i) = find_link(s, a) else {
-        return Err(Refusal::NoSuchEnd);
-    };
-    let l = link_at(s, i);
-    send_on(s, p, i, a, b, c, l)
+    let found = find_link(s, a)
+        .filter(|found| is_any_end(p, found.link))
+        .ok_or(Refusal::NoSuchEnd)?;
+    let l = found.link;
+    if b > 1 {
+        return Err(Refusal::BadArgument);
+    }
+    if is_expired(s, l.tx) {
+        return Err(Refusal::TimedOut);
+    }
+    if hears_disconnect(p, l) {
+        return Ok(tell_disconnect(s, found));
+    }
+    if hears_return(p, l) && l.outcome != codes::TPEV_SVCSUCC {
+        return Ok(tell_return(s, l));
+    }
+    if !(is_sender(p, l) && l.granting == 0) {
+        return Err(Refusal::NotAllowedNow);
+    }
+    if l.filled >= Link::UNREAD {
+        return Err(Refusal::UnreadFull);
+    }
+    send(s, found, b, c);
+    Ok(accept(0))
 }
 
 // Does the oldest token carry the grant?
@@ -196,48 +187,44 @@ pub(crate) fn without_oldest(l: Link, sender: u32, granting: u32) -> Link
     }
 }
 
-// The oldest token of the link a, which stands at the place i, comes.
+// The oldest token of the link found comes.
 #[tactic(auto, using(crate::proofs::Laws::replaced_of), unfolding(rules::specs::Conversations::received, rules::specs::Choice::pick))]
-pub(crate) fn receive(s: &mut [u32; WORDS], p: PartyNumber, i: usize, a: u32, l: Link) -> Told
-    requires { ((view s.old).count ≤ 32) × (i ≡ place_of (view s.old) a) × (i < (view s.old).count) × (0 < l.filled) }
-    ensures { ruled_by result (view s.new) ≡ received (view s.old) p.index a l }
+pub(crate) fn receive(s: &mut [u32; WORDS], p: PartyNumber, found: Found) -> Told
+    requires { ((view s.old).count ≤ 32) × Stands (view s.old) found × (0 < found.link.filled) }
+    ensures { ruled_by result (view s.new) ≡ received (view s.old) p.index found.link.number found.link }
 {
+    let Found { place, link: l } = found;
     let [token, ..] = l.unread;
     if carries_grant(l) {
-        put_link(s, i, without_oldest(l, end_side(p, l), 0));
+        put_link(s, place, without_oldest(l, end_side(p, l), 0));
         return Told {
             event: codes::TPEV_SENDONLY,
             token,
             ..coded(codes::TPEEVENT)
         };
     }
-    put_link(s, i, without_oldest(l, l.sender, l.granting));
+    put_link(s, place, without_oldest(l, l.sender, l.granting));
     Told { token, ..accept(0) }
 }
 
-// Kind 18, on the link l with the number a, which stands at the place i.
-#[tactic(auto, unfolding(rules::specs::Conversations::receive_on, rules::specs::Choice::pick))]
-pub(crate) fn receive_on(
-    s: &mut [u32; WORDS],
-    p: PartyNumber,
-    i: usize,
-    a: u32,
-    l: Link,
-) -> Result<Told, Refusal>
-    requires { ((view s.old).count ≤ 32) × (i ≡ place_of (view s.old) a) × (i < (view s.old).count) }
-    ensures { ruled_by (told_of result) (view s.new) ≡ receive_on (view s.old) p.index a l }
+// Kind 18.
+#[tactic(auto, unfolding(rules::specs::Conversations::receive_of, rules::specs::Conversations::receive_on, rules::specs::Conversations::any_end, rules::specs::Conversations::originator_end, rules::specs::Conversations::server_end, rules::specs::Record::own_end, rules::specs::Choice::pick))]
+pub(crate) fn tprecv(s: &mut [u32; WORDS], p: PartyNumber, a: u32) -> Result<Told, Refusal>
+    requires { (view s.old).count ≤ 32 }
+    ensures { ruled_by (told_of result) (view s.new) ≡ receive_of (view s.old) p.index a }
 {
-    if !is_any_end(p, l) {
-        return Err(Refusal::NoSuchEnd);
-    }
+    let found = find_link(s, a)
+        .filter(|found| is_any_end(p, found.link))
+        .ok_or(Refusal::NoSuchEnd)?;
+    let l = found.link;
     if is_expired(s, l.tx) {
         return Err(Refusal::TimedOut);
     }
     if hears_disconnect(p, l) {
-        return Ok(tell_disconnect(s, i, a, l));
+        return Ok(tell_disconnect(s, found));
     }
     if hears_return(p, l) {
-        return Ok(tell_return(s, i, a, l));
+        return Ok(tell_return(s, l));
     }
     if is_sender(p, l) {
         return Err(Refusal::NotAllowedNow);
@@ -245,49 +232,33 @@ pub(crate) fn receive_on(
     if l.filled == 0 {
         return Err(Refusal::NothingUnread);
     }
-    Ok(receive(s, p, i, a, l))
+    Ok(receive(s, p, found))
 }
 
-// Kind 18.
-#[tactic(auto, using(crate::proofs::Search::found_some, crate::proofs::Talking::no_link, crate::proofs::Talking::stands), unfolding(rules::specs::Conversations::receive_of, rules::specs::Conversations::receive_on, rules::specs::Conversations::any_end, rules::specs::Conversations::originator_end, rules::specs::Conversations::server_end, rules::specs::Choice::pick))]
-pub(crate) fn tprecv(s: &mut [u32; WORDS], p: PartyNumber, a: u32) -> Result<Told, Refusal>
-    requires { (view s.old).count ≤ 32 }
-    ensures { ruled_by (told_of result) (view s.new) ≡ receive_of (view s.old) p.index a }
-{
-    let Some(i) = find_link(s, a) else {
-        return Err(Refusal::NoSuchEnd);
-    };
-    let l = link_at(s, i);
-    receive_on(s, p, i, a, l)
-}
-
-// The conversation a, which stands at the place i, is disconnected if working, and else goes.
+// The conversation found is disconnected if working, and else goes.
 #[tactic(auto, using(crate::proofs::Laws::replaced_of), unfolding(rules::specs::Conversations::disconnected_at, rules::specs::Choice::pick))]
-pub(crate) fn disconnect_at(s: &mut [u32; WORDS], i: usize, a: u32, l: Link)
-    requires { ((view s.old).count ≤ 32) × (i ≡ place_of (view s.old) a) × (i < (view s.old).count) }
-    ensures { view s.new ≡ disconnected_at (view s.old) a l }
+pub(crate) fn disconnect(s: &mut [u32; WORDS], found: Found)
+    requires { ((view s.old).count ≤ 32) × Stands (view s.old) found }
+    ensures { view s.new ≡ disconnected_at (view s.old) found.link.number found.link }
 {
-    if l.state == 1 {
-        put_link(s, i, disconnect_link(l));
+    let Found { place, link } = found;
+    if link.state == 1 {
+        put_link(s, place, disconnect_link(link));
         return;
     }
-    remove_at(s, i, a);
+    remove(s, link.number);
 }
 
 // Kind 19.
-#[tactic(auto, using(crate::proofs::Search::found_some, crate::proofs::Talking::no_link, crate::proofs::Talking::stands), unfolding(rules::specs::Conversations::disconnect_of, rules::specs::Conversations::originator_end, rules::specs::Choice::pick))]
+#[tactic(auto, unfolding(rules::specs::Conversations::disconnect_of, rules::specs::Conversations::originator_end, rules::specs::Record::own_end, rules::specs::Choice::pick))]
 pub(crate) fn tpdiscon(s: &mut [u32; WORDS], p: PartyNumber, a: u32) -> Result<Told, Refusal>
     requires { (view s.old).count ≤ 32 }
     ensures { ruled_by (told_of result) (view s.new) ≡ disconnect_of (view s.old) p.index a }
 {
-    let Some(i) = find_link(s, a) else {
-        return Err(Refusal::NoSuchEnd);
-    };
-    let l = link_at(s, i);
-    if !is_originator_end(p, l) {
-        return Err(Refusal::NoSuchEnd);
-    }
-    set_rollback_only(s, l.tx);
-    disconnect_at(s, i, a, l);
+    let found = find_link(s, a)
+        .filter(|found| is_originator_end(p, found.link))
+        .ok_or(Refusal::NoSuchEnd)?;
+    set_rollback_only(s, found.link.tx);
+    disconnect(s, found);
     Ok(accept(0))
 }

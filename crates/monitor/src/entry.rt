@@ -1,4 +1,5 @@
-// The monitor lent by a host and changed in place: thin steps that lend the words behind the reference.
+// The monitor lent by a host and changed in place: thin steps that lend the words behind the reference. Elsewhere the same stand by value: a host keeps
+// its record, and a caller in Rust hands one on.
 ghost use Rattle.std.specs.Prelude.{◌≡◌};
 ghost use Rattle.rules.specs.Record.{fresh_monitor};
 ghost use Rattle.rules.specs.Sound.{sound};

@@ -1,5 +1,6 @@
 // The drill file: calls as numbers in groups of seven bits, six to a call; reading one, running a file, writing one.
 ghost use Rattle.std.specs.Prelude.{◌≡◌, true};
+ghost use Rattle.rules.specs.Codes.{code_of};
 ghost use Rattle.rules.specs.Sound.{sound};
 ghost use Rattle.monitor.specs.View.{view};
 ghost use Rattle.monitor.specs.declared.file.WriteError.TheVariants.{NoRoom};
@@ -10,9 +11,10 @@ use super::sound::is_sound_in;
 use super::steps::call_on;
 use super::words::{Store, WORDS};
 use number::{NoRoom, ReadError};
-use rules::{Call, codes};
+use rules::{Call, Refusal, codes};
 
 // The call at a place, and the place after it; none where the file ends between two calls.
+#[tactic(auto, using(crate::proofs::Calls::call_none, crate::proofs::Calls::reads_none, crate::proofs::Calls::call_read), unfolding(crate::specs::File::found, number::specs::Answers::decoded))]
 pub fn read_call(input: &[u8], place: usize) -> Result<Option<(Call, usize)>, ReadError>
     ensures { found result ≡ read_call input.now place }
 {
@@ -24,30 +26,21 @@ pub fn read_call(input: &[u8], place: usize) -> Result<Option<(Call, usize)>, Re
     for value in &mut values {
         (*value, at) = number::decode(input, at)?;
     }
-    let [clock, party, kind, a, b, c] = values;
-    Ok(Some((
-        Call {
-            clock,
-            party,
-            kind,
-            a,
-            b,
-            c,
-        },
-        at,
-    )))
+    Ok(Some((Call::from(values), at)))
 }
 
-// What a drill file tells, beside its answers and the record: its code, how many calls were run, and the place after them.
+// What a drill file tells, beside its answers and the record: its code, how many calls were run, and the place after them. C's entry gives it
+// as it stands, a struct of C's.
 #[repr(C)]
-#[derive(Clone, Copy)]
+#[derive(Clone, Copy, Default)]
 pub struct Passed {
     pub code: i64,
     pub calls: usize,
     pub used: usize,
 }
 
-// The same, with the record after its calls. The code stands beside values, since the calls before a bad number were carried out.
+// The same, with the record after its calls, flat, as callers read it. The code is a number as in C's struct, and stands beside values, since the calls
+// before a bad number were carried out.
 #[derive(Clone, Copy)]
 pub struct FileRan {
     pub store: Store,
@@ -56,14 +49,44 @@ pub struct FileRan {
     pub used: usize,
 }
 
-// The calls of a piece of a file on a sound record, as many as there are answer places for; `last` says that the file ends with the piece.
+impl Passed {
+    // A refusal before the first call.
+    fn refused(why: Refusal) -> Passed
+        ensures { result ≡ record { code = code_of why; calls = 0; used = 0 } }
+    {
+        Passed {
+            code: why.code(),
+            ..Passed::default()
+        }
+    }
+}
+
+impl FileRan {
+    // What was told, with the record after it.
+    fn new(store: Store, told: Passed) -> FileRan
+        ensures { result ≡ record { store = store; code = told.code; calls = told.calls; used = told.used } }
+    {
+        FileRan {
+            store,
+            code: told.code,
+            calls: told.calls,
+            used: told.used,
+        }
+    }
+}
+
+// The calls of a piece of a file on a sound record, as many as there are answer places for. `last` is a fact of the input, that the file ends
+// with the piece, and chooses no steps.
+#[tactic(auto, using(crate::proofs::Calls::runs_none, crate::proofs::Calls::runs_over, crate::proofs::Calls::runs_cut), unfolding(rules::specs::Choice::pick))]
 fn run_calls(s: &mut [u32; WORDS], input: &[u8], last: bool, answers: &mut [i64]) -> Passed
     requires { sound (view s.old) ≡ true }
     ensures { passed (view s.new) result.code result.calls result.used answers.new ≡ piece_run (view s.old) input.now last answers.old }
 {
     let most = answers.len() / 6;
+    // The place is the one that `read_call` tells, no index that a `for` could count; the count is told.
     let mut at = 0;
     let mut n = 0;
+    // The code is a number beside values, as in `Passed`.
     let code = loop {
         match read_call(input, at) {
             Ok(Some((call, next))) => {
@@ -76,9 +99,9 @@ fn run_calls(s: &mut [u32; WORDS], input: &[u8], last: bool, answers: &mut [i64]
                 n += 1;
             }
             Ok(None) => break codes::FILE_RUN,
-            Err(ReadError::CutShort) if last => break codes::CUT_SHORT,
+            Err(ReadError::CutShort) if last => break Refusal::CutShort.code(),
             Err(ReadError::CutShort) => break codes::FILE_RUN,
-            Err(ReadError::Malformed) => break codes::MALFORMED,
+            Err(ReadError::Malformed) => break Refusal::Malformed.code(),
         }
     };
     Passed {
@@ -89,6 +112,7 @@ fn run_calls(s: &mut [u32; WORDS], input: &[u8], last: bool, answers: &mut [i64]
 }
 
 // A piece of a file, on whatever record is lent.
+#[tactic(auto, unfolding(crate::specs::File::piece_of, rules::specs::Choice::pick))]
 pub(crate) fn piece_on(
     s: &mut [u32; WORDS],
     input: &[u8],
@@ -98,58 +122,42 @@ pub(crate) fn piece_on(
     ensures { passed (view s.new) result.code result.calls result.used answers.new ≡ piece_of (view s.old) input.now last answers.old }
 {
     if !is_sound_in(s) {
-        return Passed {
-            code: codes::UNSOUND,
-            calls: 0,
-            used: 0,
-        };
+        return Passed::refused(Refusal::Unsound);
     }
     run_calls(s, input, last, answers)
 }
 
-// A piece of a file.
+// A piece of a file, by value; `run_file` beside it differs in what it calls.
 pub fn run_piece(mut m: Store, input: &[u8], last: bool, answers: &mut [i64]) -> FileRan
     ensures { passed (view result.store.words) result.code result.calls result.used answers.new ≡ piece_of (view m.words) input.now last answers.old }
 {
-    let r = piece_on(&mut m.words, input, last, answers);
-    FileRan {
-        store: m,
-        code: r.code,
-        calls: r.calls,
-        used: r.used,
-    }
+    let told = piece_on(&mut m.words, input, last, answers);
+    FileRan::new(m, told)
 }
 
 // How many whole calls a file has, before its end or a bad number.
+#[tactic(auto, using(crate::proofs::Calls::counts_none, crate::proofs::Calls::counts_nothing))]
 fn count_calls(input: &[u8]) -> usize
     ensures { result ≡ (file_calls input.now).count }
 {
+    // As in `run_calls`: the place is told by `read_call`, and the count is what this tells.
     let mut at = 0;
     let mut n = 0;
-    loop {
-        match read_call(input, at) {
-            Ok(Some((_, next))) => {
-                at = next;
-                n += 1;
-            }
-            // An arm each, and no `while let`: under one pattern for both, no proof was found.
-            Ok(None) => return n,
-            Err(_) => return n,
-        }
+    while let Ok(Some((_, next))) = read_call(input, at) {
+        at = next;
+        n += 1;
     }
+    n
 }
 
 // A whole file, on whatever record is lent.
+#[tactic(auto, unfolding(crate::specs::File::file_of, rules::specs::Choice::pick))]
 pub(crate) fn file_on(s: &mut [u32; WORDS], input: &[u8], answers: &mut [i64]) -> Passed
     ensures { passed (view s.new) result.code result.calls result.used answers.new ≡ file_of (view s.old) input.now answers.old }
 {
     let whole = count_calls(input);
     if answers.len() / 6 < whole {
-        return Passed {
-            code: codes::TOO_LITTLE_ROOM,
-            calls: 0,
-            used: 0,
-        };
+        return Passed::refused(Refusal::TooLittleRoom);
     }
     piece_on(s, input, true, answers)
 }
@@ -158,13 +166,8 @@ pub(crate) fn file_on(s: &mut [u32; WORDS], input: &[u8], answers: &mut [i64]) -
 pub fn run_file(mut m: Store, input: &[u8], answers: &mut [i64]) -> FileRan
     ensures { passed (view result.store.words) result.code result.calls result.used answers.new ≡ file_of (view m.words) input.now answers.old }
 {
-    let r = file_on(&mut m.words, input, answers);
-    FileRan {
-        store: m,
-        code: r.code,
-        calls: r.calls,
-        used: r.used,
-    }
+    let told = file_on(&mut m.words, input, answers);
+    FileRan::new(m, told)
 }
 
 // Why nothing is written; `file_written` gives document 01's code of each.
@@ -186,6 +189,7 @@ impl From<NoRoom> for WriteError {
 
 // A list of calls, six numbers to a call, put into the buffer at a place; answers the place after the last byte. Where it is refused the
 // buffer stays as it was.
+#[tactic(auto, unfolding(crate::specs::File::file_written, crate::specs::File::file_answer, crate::specs::File::file_buffer, crate::specs::File::whole_calls, number::specs::Answers::encoded, rules::specs::Choice::pick))]
 pub fn write_calls(buffer: &mut [u8], place: usize, calls: &[u32]) -> Result<usize, WriteError>
     ensures answer { file_written result ≡ file_answer buffer.old place calls.now }
     ensures bytes { buffer.new ≡ file_buffer buffer.old place calls.now }

@@ -1,6 +1,9 @@
 // The kinds of calls by name: X/Open's functions, and the four kinds that are none of X/Open's.
 ghost use Rattle.monitor.specs.Kinds.{Decodes};
 
+use rules::Refusal;
+
+// Nine of them are rows of the TX table too (`TxCall`): a kind that is no TX call has no row.
 #[derive(Clone, Copy, Debug, PartialEq, Eq)]
 pub(crate) enum Kind {
     TxOpen,
@@ -28,16 +31,12 @@ pub(crate) enum Kind {
     SetRights,
 }
 
-// A number that no kind has.
-#[derive(Clone, Copy, Debug, PartialEq, Eq)]
-pub(crate) struct UnknownKind;
-
 impl TryFrom<u32> for Kind {
-    type Error = UnknownKind;
+    type Error = Refusal;
 
     ghost try_from_gives = { Decodes };
 
-    fn try_from(number: u32) -> Result<Kind, UnknownKind> {
+    fn try_from(number: u32) -> Result<Kind, Refusal> {
         Ok(match number {
             1 => Kind::TxOpen,
             2 => Kind::TxClose,
@@ -62,7 +61,7 @@ impl TryFrom<u32> for Kind {
             21 => Kind::Terminate,
             22 => Kind::Report,
             23 => Kind::SetRights,
-            _ => return Err(UnknownKind),
+            _ => return Err(Refusal::UnknownKind),
         })
     }
 }

@@ -1,11 +1,12 @@
 // The running monitor: its record as words that are lent and changed in place; one call, a list of calls, drill files, soundness, equality,
-// each equal to its definition in the crate rules.
+// each equal to its definition, in the crate rules or, of drill files, in specs/File.
 #![tactic(auto)]
 
 mod conversations;
 mod entry;
 mod equality;
 mod file;
+mod found;
 mod fresh;
 mod kinds;
 mod links;
@@ -37,8 +38,9 @@ pub use sound::is_sound;
 pub use steps::step;
 pub use words::{Store, WORDS};
 
-// What a rule tells, beside the record. The code is a number, since some stand beside values, and one is made by a sum.
-#[derive(Clone, Copy)]
+// What a rule tells, beside the record. The code is a number, since some stand beside values, and one is made by a sum; 0 stands for none in the other
+// fields, as in C's answer, into which they go.
+#[derive(Clone, Copy, Default)]
 pub struct Told {
     pub code: i64,
     pub value: u32,
@@ -54,7 +56,7 @@ pub struct Stepped {
     pub answer: Answer,
 }
 
-// What a list of calls gives, beside its answers: the record after it, and its code, a number as in C's entry, so that one equation speaks of both.
+// What a list of calls gives, beside its answers: the record after it, and its code, a number as C's entry gives it.
 #[derive(Clone, Copy)]
 pub struct Ran {
     pub store: Store,

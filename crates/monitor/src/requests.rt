@@ -1,57 +1,36 @@
 // Kinds 12 to 14: a request, a connect, and the dispatch of a waiting link.
 ghost use Rattle.std.specs.Prelude.{◌≡◌, ◌+◌, ◌<◌, ◌≤◌, IfOk};
 ghost use Rattle.rules.specs.declared.Ruled.{Ruled};
-ghost use Rattle.rules.specs.Choice.{pick};
 ghost use Rattle.rules.specs.Record.{added, new_link};
-ghost use Rattle.rules.specs.Requests.{no_reply, no_tran, recv_only, connect_flags, link_tx, link_left, ask_link, request_of, connect_of, is_idle, fits};
+ghost use Rattle.rules.specs.Requests.{recv_only, connect_flags, link_tx, link_left, ask_link, request_of, connect_of, is_idle, fits};
 ghost use Rattle.rules.specs.Requests.{dispatch_event, dispatched, next_waiting, dispatch_of};
-ghost use Rattle.monitor.specs.View.{view, asked, place_among, ruled_by, told_of};
+ghost use Rattle.monitor.specs.View.{view, asked, place_among, with_number, ruled_by, told_of};
 
 use super::Told;
+use super::found::Found;
 use super::links::{accept, has_own_end};
 use super::party::PartyNumber;
 use super::searches::first_link;
-use super::services::{in_set, is_offered, is_offering, is_service};
+use super::services::{in_set, is_offered, is_offering};
 use super::transaction::{is_late_at, live_owner, tx_of};
-use super::words::{
-    WORDS, add_link, count, last_link, link_at, mayrequest_at, party_at, put_link, put_party,
-};
-use rules::{Link, Monitor, Party, Refusal, codes};
+use super::words::{WORDS, add_link, count, last_link, link_at, party_at, put_link, put_party};
+use rules::{Link, Monitor, Party, Refusal, codes, is_service, no_reply, no_tran};
 
-// The flags of a request: TPNOREPLY and TPNOTRAN; of a connect: TPNOTRAN, TPSENDONLY, TPRECVONLY.
-pub(crate) fn no_reply(b: u32) -> bool
-    ensures { result ≡ no_reply b }
+// Does the server send first?
+pub(crate) fn recv_only(b: u32) -> bool
+    ensures { result ≡ recv_only b }
 {
-    b / codes::TPNOREPLY % 2 == 1
+    b / codes::TPRECVONLY % 2 == 1
 }
 
-pub(crate) fn no_tran(b: u32) -> bool
-    ensures { result ≡ no_tran b }
-{
-    b / codes::TPNOTRAN % 2 == 1
-}
-
+// The flags of a connect: TPNOTRAN, and one of TPSENDONLY and TPRECVONLY.
 pub(crate) fn connect_flags(b: u32) -> bool
     ensures { result ≡ connect_flags b }
 {
-    b <= 15 && !no_reply(b) && b / codes::TPSENDONLY % 2 != b / codes::TPRECVONLY % 2
+    b <= 15 && !no_reply(b) && (b / codes::TPSENDONLY % 2 == 1) != recv_only(b)
 }
 
-// A new link with the flags b: its originator's end, its sender and its transaction.
-#[tactic(auto, unfolding(rules::specs::Choice::pick))]
-pub(crate) fn open_end(b: u32) -> u32
-    ensures { result ≡ pick (no_reply b) 0 1 }
-{
-    u32::from(!no_reply(b))
-}
-
-#[tactic(auto, unfolding(rules::specs::Choice::pick))]
-pub(crate) fn first_sender(b: u32) -> u32
-    ensures { result ≡ pick (recv_only b) 1 0 }
-{
-    u32::from(b / codes::TPRECVONLY % 2 == 1)
-}
-
+// The transaction of a new link with the flags b, 0 for none, as the link keeps it.
 #[tactic(auto, unfolding(rules::specs::Requests::link_tx, rules::specs::Choice::pick))]
 pub(crate) fn link_tx(s: &[u32; WORDS], p: PartyNumber, b: u32) -> u32
     requires { (view s.now).count ≤ 32 }
@@ -60,36 +39,17 @@ pub(crate) fn link_tx(s: &[u32; WORDS], p: PartyNumber, b: u32) -> u32
     if no_tran(b) { 0 } else { tx_of(s, p) }
 }
 
-// A waiting link of party p's.
-pub(crate) fn new_link(
-    n: u32,
-    kind: u32,
-    p: PartyNumber,
-    attached: u32,
-    a: u32,
-    t: u32,
-    c: u32,
-    sender: u32,
-) -> Link
-    ensures { result ≡ new_link n kind p.index attached a t c sender }
+// A waiting request of party p's for service a, of the transaction t, with the token c; it has no number yet. A connect changes it into a conversation.
+pub(crate) fn new_request(p: PartyNumber, a: u32, t: u32, c: u32) -> Link
+    ensures { result ≡ new_link 0 0 p.index 1 a t c 0 }
 {
     Link {
-        number: n,
-        kind,
-        originator: p.index as u32,
-        attached,
+        originator: u32::from(p),
+        attached: 1,
         service: a,
         tx: t,
-        state: 0,
-        server: 0,
         first: c,
-        outcome: 0,
-        ending: 0,
-        sender,
-        granting: 0,
-        disconnected: 0,
-        unread: [0; 4],
-        filled: 0,
+        ..Link::fresh()
     }
 }
 
@@ -106,7 +66,7 @@ pub(crate) fn ask_link(s: &[u32; WORDS], p: PartyNumber, t: u32, a: u32) -> Resu
     ensures answer { (rest : Ruled) → ask_link (view s.now) p.index t a rest ≡ asked result (view s.now) rest }
     ensures room { IfOk result (λ _. ((view s.now).count < 32) × ((view s.now).lastlink < 60000)) }
 {
-    if !in_set(mayrequest_at(s, p.index), a) {
+    if !in_set(party_at(s, p.index).mayrequest, a) {
         return Err(Refusal::NotPermitted);
     }
     let o = live_owner(s, t);
@@ -125,23 +85,14 @@ pub(crate) fn ask_link(s: &[u32; WORDS], p: PartyNumber, t: u32, a: u32) -> Resu
     Ok(())
 }
 
-// The new link gets the next number, which is the value, and its place.
-pub(crate) fn open_link(
-    s: &mut [u32; WORDS],
-    kind: u32,
-    p: PartyNumber,
-    attached: u32,
-    a: u32,
-    t: u32,
-    c: u32,
-    sender: u32,
-) -> u32
+// The new link gets the next number, which is the answer, and its place. That there is room is a fact of the record, so contracts say it (`words::count`).
+pub(crate) fn open_link(s: &mut [u32; WORDS], l: Link) -> u32
     requires { ((view s.old).count < 32) × ((view s.old).lastlink < 60000) }
-    ensures { (result ≡ (view s.old).lastlink + 1) × (view s.new ≡ added (view s.old) (new_link ((view s.old).lastlink + 1) kind p.index attached a t c sender)) }
+    ensures { (result ≡ (view s.old).lastlink + 1) × (view s.new ≡ added (view s.old) (with_number l ((view s.old).lastlink + 1))) }
 {
-    let d = last_link(s) + 1;
-    add_link(s, new_link(d, kind, p, attached, a, t, c, sender));
-    d
+    let number = last_link(s) + 1;
+    add_link(s, Link { number, ..l });
+    number
 }
 
 // Kind 12.
@@ -162,8 +113,12 @@ pub(crate) fn tpacall(
     }
     let t = link_tx(s, p, b);
     ask_link(s, p, t, a)?;
-    let d = open_link(s, 0, p, open_end(b), a, t, c, 0);
-    Ok(accept(if no_reply(b) { 0 } else { d }))
+    let request = Link {
+        attached: u32::from(!no_reply(b)),
+        ..new_request(p, a, t, c)
+    };
+    let number = open_link(s, request);
+    Ok(accept(if no_reply(b) { 0 } else { number }))
 }
 
 // Kind 13.
@@ -183,7 +138,12 @@ pub(crate) fn tpconnect(
     }
     let t = link_tx(s, p, b);
     ask_link(s, p, t, a)?;
-    Ok(accept(open_link(s, 1, p, 1, a, t, c, first_sender(b))))
+    let conversation = Link {
+        kind: 1,
+        sender: u32::from(recv_only(b)),
+        ..new_request(p, a, t, c)
+    };
+    Ok(accept(open_link(s, conversation)))
 }
 
 // May party p take a link?
@@ -210,9 +170,10 @@ pub(crate) fn next_waiting(s: &[u32; WORDS], p: PartyNumber) -> Option<usize>
     ensures { result ≡ place_among (view s.now).count (next_waiting (view s.now) p.index) }
 {
     let q = party_at(s, p.index);
-    first_link(s, 0, |i| is_for(q, link_at(s, i)))
+    first_link(s, |l| is_for(q, l))
 }
 
+// The event of a dispatch, as C's answer has it: a number.
 #[tactic(auto, unfolding(rules::specs::Requests::dispatch_event, rules::specs::Choice::pick))]
 pub(crate) fn dispatch_event(l: Link) -> u32
     ensures { result ≡ dispatch_event l }
@@ -226,12 +187,12 @@ pub(crate) fn dispatch_event(l: Link) -> u32
     }
 }
 
-// The link l at the place i becomes working for party p.
+// The link found becomes working for party p.
 #[tactic(auto, unfolding(rules::specs::Requests::dispatched))]
-pub(crate) fn dispatch_at(s: &mut [u32; WORDS], p: PartyNumber, i: usize, l: Link) -> Told
-    requires { i < 32 }
-    ensures { ruled_by result (view s.new) ≡ dispatched (view s.old) p.index i l }
+pub(crate) fn dispatch_at(s: &mut [u32; WORDS], p: PartyNumber, found: Found) -> Told
+    ensures { ruled_by result (view s.new) ≡ dispatched (view s.old) p.index found.place found.link }
 {
+    let Found { place, link: l } = found;
     let q = party_at(s, p.index);
     put_party(
         s,
@@ -243,19 +204,18 @@ pub(crate) fn dispatch_at(s: &mut [u32; WORDS], p: PartyNumber, i: usize, l: Lin
     );
     put_link(
         s,
-        i,
+        place,
         Link {
             state: 1,
-            server: p.index as u32,
+            server: u32::from(p),
             ..l
         },
     );
     Told {
-        code: codes::TP_ACCEPTED,
-        value: l.number,
         event: dispatch_event(l),
         token: l.first,
         service: l.service,
+        ..accept(l.number)
     }
 }
 
@@ -268,9 +228,9 @@ pub(crate) fn dispatch(s: &mut [u32; WORDS], p: PartyNumber) -> Result<Told, Ref
     if !is_idle(s, p) {
         return Err(Refusal::NotAllowedNow);
     }
-    let Some(i) = next_waiting(s, p) else {
+    let Some(place) = next_waiting(s, p) else {
         return Err(Refusal::NothingWaiting);
     };
-    let l = link_at(s, i);
-    Ok(dispatch_at(s, p, i, l))
+    let link = link_at(s, place);
+    Ok(dispatch_at(s, p, Found { place, link }))
 }

@@ -1,19 +1,21 @@
 // Kinds 20 and 21: a service returns, and a party dies.
-ghost use Rattle.std.specs.Prelude.{◌≡◌, ◌<◌, ◌≤◌, option_to_list};
+ghost use Rattle.std.specs.Prelude.{◌≡◌, ◌≤◌, [], ◌∷◌, option_to_list};
+ghost use Rattle.rules.specs.Choice.{pick};
 ghost use Rattle.rules.specs.Lists.{first_of};
-ghost use Rattle.rules.specs.Record.{is_server_free, own_end, live, with_parties};
-ghost use Rattle.rules.specs.Return.{plain_outcome, outcome_of, unread_after, close_end, rollback_only_by, close_own, end_own, rollback_only_served, serves_none, ending_of, hand_back, leave, return_with, return_of, died_out, after_death, terminate_of};
+ghost use Rattle.rules.specs.Record.{is_server_free, own_end, is_conversation, is_working, is_returned, closed, disconnected_link, live, with_parties};
+ghost use Rattle.rules.specs.Return.{plain_outcome, outcome_of, unread_after, rollback_only_by, close_own, end_own, rollback_only_served, serves_none, ending_of, hand_back, leave, return_with, return_of, died_out, after_death, terminate_of};
+ghost use Rattle.monitor.specs.Ending.{outcome_number};
 ghost use Rattle.monitor.specs.View.{view, ruled_by, told_of};
 
 use super::Told;
 use super::conversations::is_originator_end;
 use super::links::{
     accept, change_at, close_end, disconnect_link, drop_unread, first_own, has_own_end, is_own_end,
-    live_at, place_of, remove_at, sweep,
+    live_at, place_of, remove, sweep,
 };
 use super::party::PartyNumber;
 use super::transaction::{end_tx, first_of_tx, set_rollback_only};
-use super::words::{WORDS, count, link_at, owned_at, party_at, put_party, served_at};
+use super::words::{WORDS, count, link_at, party_at, put_party};
 use rules::{Link, Party, Refusal, codes};
 
 // Is the server the sender, with no grant under way?
@@ -23,46 +25,68 @@ pub(crate) fn is_server_free(l: Link) -> bool
     l.sender == 1 && l.granting == 0
 }
 
+// How a service returned.
+#[derive(Clone, Copy, Debug, PartialEq, Eq)]
+pub(crate) enum Outcome {
+    SvcErr,
+    SvcFail,
+    SvcSucc,
+}
+
+impl Outcome {
+    // Its number, in the record, in an event and in the value of a return.
+    pub(crate) fn number(self) -> u32
+        ensures { result ≡ outcome_number self }
+    {
+        match self {
+            Outcome::SvcErr => codes::TPEV_SVCERR,
+            Outcome::SvcFail => codes::TPEV_SVCFAIL,
+            Outcome::SvcSucc => codes::TPEV_SVCSUCC,
+        }
+    }
+}
+
+// As the service means to return: a stays C's number, as the rules' `outcome_of` has it.
 #[tactic(auto, unfolding(rules::specs::Return::plain_outcome, rules::specs::Choice::pick))]
-pub(crate) fn plain_outcome(a: u32) -> u32
-    ensures { result ≡ plain_outcome a }
+pub(crate) fn plain_outcome(a: u32) -> Outcome
+    ensures { outcome_number result ≡ plain_outcome a }
 {
     if a == codes::TPSUCCESS {
-        codes::TPEV_SVCSUCC
+        Outcome::SvcSucc
     } else {
-        codes::TPEV_SVCFAIL
+        Outcome::SvcFail
     }
 }
 
 #[tactic(auto, unfolding(rules::specs::Return::outcome_of, rules::specs::Choice::pick))]
-pub(crate) fn outcome_of(s: &[u32; WORDS], p: PartyNumber, a: u32, c: u32, l: Link) -> u32
+pub(crate) fn outcome_of(s: &[u32; WORDS], p: PartyNumber, a: u32, c: u32, l: Link) -> Outcome
     requires { (view s.now).count ≤ 32 }
-    ensures { result ≡ outcome_of (view s.now) p.index a c l }
+    ensures { outcome_number result ≡ outcome_of (view s.now) p.index a c l }
 {
-    if has_own_end(s, p) || owned_at(s, p.index) != 0 {
-        return codes::TPEV_SVCERR;
+    if has_own_end(s, p) || party_at(s, p.index).owned != 0 {
+        return Outcome::SvcErr;
     }
     if l.kind != 1 {
         return plain_outcome(a);
     }
     if l.disconnected != 0 {
-        return codes::TPEV_SVCERR;
+        return Outcome::SvcErr;
     }
     if is_server_free(l) {
         return plain_outcome(a);
     }
     if a == codes::TPFAIL && c == 0 {
-        return codes::TPEV_SVCFAIL;
+        return Outcome::SvcFail;
     }
-    codes::TPEV_SVCERR
+    Outcome::SvcErr
 }
 
 // The served link, its unread dropped or kept.
 #[tactic(auto, unfolding(rules::specs::Return::unread_after, rules::specs::Choice::pick))]
-pub(crate) fn unread_after(o: u32, l: Link) -> Link
-    ensures { result ≡ unread_after o l }
+pub(crate) fn unread_after(o: Outcome, l: Link) -> Link
+    ensures { result ≡ unread_after (outcome_number o) l }
 {
-    if o == codes::TPEV_SVCERR || !is_server_free(l) {
+    if o == Outcome::SvcErr || !is_server_free(l) {
         drop_unread(l)
     } else {
         l
@@ -83,14 +107,11 @@ pub(crate) fn mark_own(s: &mut [u32; WORDS], p: PartyNumber, from: usize)
     }
 }
 
-// What is left of a link as party p's own close.
-#[tactic(auto, unfolding(rules::specs::Return::close_end, rules::specs::Choice::pick))]
-pub(crate) fn left_closed(p: PartyNumber, l: Link) -> Option<Link>
-    ensures { option_to_list result ≡ close_end p.index l }
+// What is left of a link of party p's own as it closes.
+#[tactic(auto, unfolding(rules::specs::Choice::pick))]
+fn left_closed(l: Link) -> Option<Link>
+    ensures { option_to_list result ≡ pick (is_conversation l) (pick (is_working l) (disconnected_link l ∷ []) []) (pick (is_returned l) [] (closed l ∷ [])) }
 {
-    if !is_own_end(p, l) {
-        return Some(l);
-    }
     if l.kind == 1 {
         return (l.state == 1).then_some(disconnect_link(l));
     }
@@ -98,15 +119,14 @@ pub(crate) fn left_closed(p: PartyNumber, l: Link) -> Option<Link>
 }
 
 // Party p's own links close.
-#[tactic(auto, using(crate::proofs::Search::link_or_past, crate::proofs::Sweep::first_inside, crate::proofs::Sweep::kept_before, crate::proofs::Laws::count_kept, crate::proofs::Closing::stays), unfolding(rules::specs::Return::close_own))]
+#[tactic(auto, using(crate::proofs::Laws::count_kept, crate::proofs::Sweep::first_inside))]
 pub(crate) fn close_own(s: &mut [u32; WORDS], p: PartyNumber)
     requires { (view s.old).count ≤ 32 }
     ensures { (view s.new ≡ close_own (view s.old) p.index) × ((view s.new).count ≤ 32) }
 {
-    // The sweep starts past the last link where there is none: it blanks the room all the same.
-    let from = first_own(s, p).unwrap_or(count(s));
+    let from = first_own(s, p);
     mark_own(s, p, from);
-    sweep(s, from, |l| left_closed(p, l));
+    sweep(s, from, |l| is_own_end(p, l), left_closed);
 }
 
 // Its own transaction, if any, ends without a new one.
@@ -115,7 +135,7 @@ pub(crate) fn end_own(s: &mut [u32; WORDS], p: PartyNumber)
     requires { (view s.old).count ≤ 32 }
     ensures { (view s.new ≡ end_own (view s.old) p.index) × ((view s.new).count ≤ 32) }
 {
-    let t = owned_at(s, p.index);
+    let t = party_at(s, p.index).owned;
     if t != 0 {
         let from = first_of_tx(s, t);
         end_tx(s, p, from);
@@ -123,10 +143,10 @@ pub(crate) fn end_own(s: &mut [u32; WORDS], p: PartyNumber)
 }
 
 #[tactic(auto, unfolding(rules::specs::Return::rollback_only_served, rules::specs::Choice::pick))]
-pub(crate) fn set_served_rollback_only(s: &mut [u32; WORDS], o: u32, t: u32)
-    ensures { view s.new ≡ rollback_only_served o t (view s.old) }
+pub(crate) fn set_served_rollback_only(s: &mut [u32; WORDS], o: Outcome, t: u32)
+    ensures { view s.new ≡ rollback_only_served (outcome_number o) t (view s.old) }
 {
-    if o != codes::TPEV_SVCSUCC {
+    if o != Outcome::SvcSucc {
         set_rollback_only(s, t);
     }
 }
@@ -140,38 +160,41 @@ pub(crate) fn serve_none(s: &mut [u32; WORDS], p: PartyNumber)
 }
 
 #[tactic(auto, unfolding(rules::specs::Return::ending_of, rules::specs::Choice::pick))]
-pub(crate) fn ending_of(o: u32, c: u32) -> u32
-    ensures { result ≡ ending_of o c }
+pub(crate) fn ending_of(o: Outcome, c: u32) -> u32
+    ensures { result ≡ ending_of (outcome_number o) c }
 {
-    if o == codes::TPEV_SVCERR { 0 } else { c }
+    match o {
+        Outcome::SvcErr => 0,
+        Outcome::SvcFail | Outcome::SvcSucc => c,
+    }
 }
 
 // The link d is returned, or goes if the originator's end is closed.
 #[tactic(auto, unfolding(rules::specs::Return::hand_back, rules::specs::Record::link_of, rules::specs::Record::changed, rules::specs::Choice::pick))]
-pub(crate) fn hand_back(s: &mut [u32; WORDS], d: u32, o: u32, e: u32)
+pub(crate) fn hand_back(s: &mut [u32; WORDS], d: u32, o: Outcome, e: u32)
     requires { (view s.old).count ≤ 32 }
-    ensures { view s.new ≡ hand_back (view s.old) d o e }
+    ensures { view s.new ≡ hand_back (view s.old) d (outcome_number o) e }
 {
     let i = place_of(s, d);
     let l = live_at(s, i);
     if l.attached == 1 {
         let k = Link {
             state: 2,
-            outcome: o,
+            outcome: o.number(),
             ending: e,
             ..l
         };
         change_at(s, i, k);
     } else {
-        remove_at(s, i, d);
+        remove(s, d);
     }
 }
 
 // Party p, which serves the link d, leaves it with the outcome o and the ending token e.
 #[tactic(auto, unfolding(rules::specs::Return::leave, rules::specs::Return::rollback_only_served, rules::specs::Return::serves_none, rules::specs::Record::link_of, rules::specs::Record::changed, rules::specs::Choice::pick))]
-pub(crate) fn leave_link(s: &mut [u32; WORDS], p: PartyNumber, d: u32, o: u32, e: u32)
+pub(crate) fn leave_link(s: &mut [u32; WORDS], p: PartyNumber, d: u32, o: Outcome, e: u32)
     requires { (view s.old).count ≤ 32 }
-    ensures { view s.new ≡ leave (view s.old) p.index d o e }
+    ensures { view s.new ≡ leave (view s.old) p.index d (outcome_number o) e }
 {
     let i = place_of(s, d);
     let l = live_at(s, i);
@@ -185,13 +208,13 @@ pub(crate) fn leave_link(s: &mut [u32; WORDS], p: PartyNumber, d: u32, o: u32, e
 
 // Party p returns with the outcome o and the token c.
 #[tactic(auto, unfolding(rules::specs::Return::return_with))]
-pub(crate) fn return_with(s: &mut [u32; WORDS], p: PartyNumber, o: u32, c: u32) -> Told
+pub(crate) fn return_with(s: &mut [u32; WORDS], p: PartyNumber, o: Outcome, c: u32) -> Told
     requires { (view s.old).count ≤ 32 }
-    ensures { ruled_by result (view s.new) ≡ return_with (view s.old) p.index o c }
+    ensures { ruled_by result (view s.new) ≡ return_with (view s.old) p.index (outcome_number o) c }
 {
-    let d = served_at(s, p.index);
+    let d = party_at(s, p.index).served;
     leave_link(s, p, d, o, ending_of(o, c));
-    accept(o)
+    accept(o.number())
 }
 
 // Kind 20.
@@ -205,7 +228,7 @@ pub(crate) fn tpreturn(
     requires { (view s.old).count ≤ 32 }
     ensures { ruled_by (told_of result) (view s.new) ≡ return_of (view s.old) p.index a c }
 {
-    let d = served_at(s, p.index);
+    let d = party_at(s, p.index).served;
     if d == 0 {
         return Err(Refusal::NotAllowedNow);
     }
@@ -224,12 +247,12 @@ pub(crate) fn die_out(s: &mut [u32; WORDS], p: PartyNumber)
     requires { (view s.old).count ≤ 32 }
     ensures { view s.new ≡ died_out (view s.old) p.index }
 {
-    let d = served_at(s, p.index);
+    let d = party_at(s, p.index).served;
     if d == 0 {
         close_own(s, p);
         end_own(s, p);
     } else {
-        leave_link(s, p, d, codes::TPEV_SVCERR, 0);
+        leave_link(s, p, d, Outcome::SvcErr, 0);
     }
 }
 
@@ -256,6 +279,6 @@ pub(crate) fn terminate(s: &mut [u32; WORDS], p: PartyNumber) -> Told
     if before.served == 0 {
         accept(0)
     } else {
-        accept(codes::TPEV_SVCERR)
+        accept(Outcome::SvcErr.number())
     }
 }

@@ -9,7 +9,7 @@ use super::party::PartyNumber;
 use super::words::{WORDS, long, party_at, put_party};
 use rules::{Party, Refusal};
 
-// The party with the set that a names replaced.
+// The party with the set that a names replaced: a is C's number of both the party and the set, and is taken apart here and below alone.
 #[tactic(auto, unfolding(rules::specs::Rights::granted, rules::specs::Choice::pick))]
 pub(crate) fn grant(q: Party, a: u32, set: u64) -> Party
     ensures { result ≡ granted q a set }
@@ -41,11 +41,10 @@ pub(crate) fn set_rights(
     if p.index != 0 {
         return Err(Refusal::NotPermitted);
     }
-    if a >= 32 {
+    let Ok(granted) = PartyNumber::try_from(a / 2) else {
         return Err(Refusal::BadArgument);
-    }
-    let i = (a / 2) as usize;
-    let q = grant(party_at(s, i), a, long(b, c));
-    put_party(s, i, q);
+    };
+    let q = grant(party_at(s, granted.index), a, long(b, c));
+    put_party(s, granted.index, q);
     Ok(accept(0))
 }

@@ -1,7 +1,7 @@
 // A lent list of calls, six numbers to a call, with its list of answers.
 ghost use Rattle.std.specs.Prelude.{◌≡◌, true, ◌++◌, ◌+◌, ◌*◌, ◌≤◌, length, take, drop};
 ghost use Rattle.rules.specs.Sound.{sound};
-ghost use Rattle.rules.specs.Run.{call_at, places_of, ran_of, answers_of, listed, list_of};
+ghost use Rattle.rules.specs.Run.{calls_in, places_of, ran_of, answers_of, listed, list_of};
 ghost use Rattle.monitor.specs.View.{list_code, view};
 
 use super::Ran;
@@ -9,25 +9,6 @@ use super::sound::is_sound_in;
 use super::steps::call_on;
 use super::words::{Store, WORDS};
 use rules::{Answer, Call, Refusal, codes};
-
-// The call that starts at a place of the list.
-#[tactic(auto, unfolding(rules::specs::Run::call_at))]
-pub(crate) fn call_at(calls: &[u32], at: usize) -> Call
-    requires { at + 6 ≤ length calls.now }
-    ensures { result ≡ call_at (drop at calls.now) }
-{
-    let &[clock, party, kind, a, b, c] = &calls[at..at + 6] else {
-        unreachable!()
-    };
-    Call {
-        clock,
-        party,
-        kind,
-        a,
-        b,
-        c,
-    }
-}
 
 // An answer's six places, one by one: with one `copy_from_slice` a list of calls took 1.08 times as long.
 pub(crate) fn put(out: &mut [i64], at: usize, r: Answer)
@@ -42,17 +23,18 @@ pub(crate) fn put(out: &mut [i64], at: usize, r: Answer)
     out[at + 5] = i64::from(r.tx);
 }
 
-// n calls, one after the other.
-pub(crate) fn run(s: &mut [u32; WORDS], calls: &[u32], out: &mut [i64], n: usize)
-    requires { (sound (view s.old) ≡ true) × (n * 6 ≤ length calls.now) × (n * 6 ≤ length out.old) }
-    ensures { (view s.new ≡ ran_of n (view s.old) calls.now) × (out.new ≡ answers_of n (view s.old) calls.now ++ drop (n * 6) out.old) }
+// Calls, one after the other.
+#[tactic(auto, using(crate::proofs::Turns::runs_none))]
+pub(crate) fn run(s: &mut [u32; WORDS], calls: &[u32], out: &mut [i64])
+    requires { (sound (view s.old) ≡ true) × (calls_in calls.now * 6 ≤ length out.old) }
+    ensures { (view s.new ≡ ran_of (calls_in calls.now) (view s.old) calls.now)
+        × (out.new ≡ answers_of (calls_in calls.now) (view s.old) calls.now ++ drop (calls_in calls.now * 6) out.old) }
 {
-    // By place: of what `chunks_exact_mut` lent, a proof knows only how much it was.
-    for i in 0..n {
-        let at = i * 6;
-        let call = call_at(calls, at);
-        let r = call_on(s, call);
-        put(out, at, r);
+    let (calls, _) = calls.as_chunks::<6>();
+    // Answers by place: of what `chunks_exact_mut` lent, a proof knows only how much it was.
+    for (i, call) in calls.iter().enumerate() {
+        let r = call_on(s, Call::from(*call));
+        put(out, i * 6, r);
     }
 }
 
@@ -74,8 +56,7 @@ pub(crate) fn run_on(
     if !is_sound_in(s) {
         return Err(Refusal::Unsound);
     }
-    let n = calls.len() / 6;
-    run(s, calls, answers, n);
+    run(s, calls, answers);
     Ok(())
 }
 

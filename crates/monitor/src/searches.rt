@@ -1,23 +1,22 @@
-// Searches: the first place that passes a test, among the links there are and among the parties.
-ghost use Rattle.std.specs.Prelude.{◌≡◌, ◌<◌, ◌≤◌, ℕ, Bool, List};
+// Searches: the first that passes a test, among the links there are and among the parties.
+ghost use Rattle.std.specs.Prelude.{◌≡◌, ◌<◌, ◌≤◌, ℕ, Bool, IfSome};
 ghost use Rattle.rules.specs.declared.Link.{Link};
 ghost use Rattle.rules.specs.declared.Party.{Party};
-ghost use Rattle.rules.specs.declared.Monitor.{Monitor};
 ghost use Rattle.rules.specs.Lists.{first_of};
-ghost use Rattle.rules.specs.Record.{live};
-ghost use Rattle.monitor.specs.View.{view, first_place, place_among, tests_link, tests_party};
+ghost use Rattle.rules.specs.Record.{live, party};
+ghost use Rattle.monitor.specs.View.{view, link_in, first_place, place_among, tests};
 
-use super::words::{WORDS, count};
-use rules::Monitor;
+use super::words::{WORDS, count, link_at, party_at};
+use rules::{Link, Monitor, Party};
 
-// The first of the places from one up to another that passes the test. By hand: with `find` the proof did not close, since what a test that is a
+// The first of the places below one that passes the test. By hand: with `find` the proof did not close, since what a test that is a
 // parameter was asked at each turn has no name there.
 #[inline]
-fn first_place<F: Fn(usize) -> bool>(from: usize, to: usize, test: F) -> Option<usize>
+fn first_place<F: Fn(usize) -> bool>(to: usize, test: F) -> Option<usize>
     requires { (i : ℕ) → i < to → F.pre test i }
-    ensures { first_place (F.post test) from to result }
+    ensures { first_place (F.post test) to result }
 {
-    for i in from..to {
+    for i in 0..to {
         if test(i) {
             return Some(i);
         }
@@ -25,26 +24,34 @@ fn first_place<F: Fn(usize) -> bool>(from: usize, to: usize, test: F) -> Option<
     None
 }
 
-// The place of the first link that passes the test; those before the place `from` do not.
+// The place of the first link that passes the test, and no more: half of the callers ask where it is, or whether there is one.
 #[inline]
-pub(crate) fn first_link<F: Fn(usize) -> bool>(
-    s: &[u32; WORDS],
-    from: usize,
-    test: F,
-) -> Option<usize>
+pub(crate) fn first_link<F: Fn(Link) -> bool>(s: &[u32; WORDS], test: F) -> Option<usize>
     requires room { (view s.now).count ≤ 32 }
-    requires callable { (i : ℕ) → i < 32 → F.pre test i }
-    ensures { (f : Link → Bool) → from ≤ first_of f (live (view s.now)) → tests_link (F.post test) f (view s.now)
-        → result ≡ place_among (view s.now).count (first_of f (live (view s.now))) }
+    requires callable { F.IsAlwaysCallable test }
+    ensures within { IfSome result (λ i. i < (view s.now).count) }
+    ensures first { (f : Link → Bool) → tests (F.post test) f → result ≡ place_among (view s.now).count (first_of f (live (view s.now))) }
 {
-    first_place(from, count(s), test)
+    first_place(
+        count(s),
+        |i|
+            requires { (i < 32) × F.IsAlwaysCallable test }
+            ensures { F.post test (link_in (view s.entry.now) i) result }
+        { test(link_at(s, i)) },
+    )
 }
 
-// The lowest party that passes the test, in any record of which the test asks this.
+// The lowest party that passes the test, as a number, with which the laws compare the rules' `owner_of`.
 #[inline]
-pub(crate) fn first_party<F: Fn(usize) -> bool>(test: F) -> Option<usize>
-    requires { (i : ℕ) → i < 16 → F.pre test i }
-    ensures { (f : Party → Bool) (xs : List ℕ) → tests_party (F.post test) f (view xs) → result ≡ place_among 16 (first_of f (view xs).parties) }
+pub(crate) fn first_party<F: Fn(Party) -> bool>(s: &[u32; WORDS], test: F) -> Option<usize>
+    requires { F.IsAlwaysCallable test }
+    ensures { (f : Party → Bool) → tests (F.post test) f → result ≡ place_among 16 (first_of f (view s.now).parties) }
 {
-    first_place(0, Monitor::PARTIES, test)
+    first_place(
+        Monitor::PARTIES,
+        |p|
+            requires { (p < 16) × F.IsAlwaysCallable test }
+            ensures { F.post test (party (view s.entry.now) p) result }
+        { test(party_at(s, p)) },
+    )
 }

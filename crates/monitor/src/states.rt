@@ -1,5 +1,5 @@
 // The TX state table: nine calls by five states.
-ghost use Rattle.std.specs.Prelude.{◌≡◌, ◌-◌, ◌<◌, ◌≤◌, true, false, MatchResult};
+ghost use Rattle.std.specs.Prelude.{◌≡◌, ◌-◌, ◌≤◌, true, false, MatchResult};
 ghost use Rattle.rules.specs.Codes.{code_of, tx_protocol_error};
 ghost use Rattle.rules.specs.States.{state_of, is_blank, next_of, in_state, entered};
 ghost use Rattle.rules.specs.Tx.{next_state};
@@ -26,7 +26,7 @@ pub(crate) enum State {
 }
 
 impl State {
-    // The column of the table.
+    // The column of the table: its place in the enum.
     fn number(self) -> usize
         ensures { result ≡ state_number self }
     {
@@ -60,7 +60,7 @@ pub(crate) enum TxCall {
 }
 
 impl TxCall {
-    // The row of the table.
+    // The row of the table: its place in the enum.
     fn row(self) -> usize
         ensures { result ≡ call_number self - 1 }
     {

@@ -1,5 +1,5 @@
 // One call: the questions before the kind's, the clock, the kind's rule, the answer's last field.
-ghost use Rattle.std.specs.Prelude.{◌≡◌, true, ◌<◌, ◌≤◌};
+ghost use Rattle.std.specs.Prelude.{◌≡◌, true, ◌≤◌};
 ghost use Rattle.rules.specs.Codes.{code_of};
 ghost use Rattle.rules.specs.Sound.{sound};
 ghost use Rattle.rules.specs.Step.{rule_of, advanced, answered_to, call_of, step_of};
@@ -26,7 +26,8 @@ use super::words::{Store, WORDS, clock, set_clock};
 use super::{Stepped, Told};
 use rules::{Answer, Call, Refusal};
 
-// Each kind by its rule. A match, since the kinds are closed and take different arguments.
+// Each kind by its rule. A match, since the kinds are closed and take different arguments; these go by their letters, as in the rules: a struct of them
+// would be taken apart in each kind.
 #[tactic(auto, using(crate::proofs::Laws::sound_room), unfolding(rules::specs::Step::rule_of, rules::specs::Choice::pick))]
 pub(crate) fn rule(
     s: &mut [u32; WORDS],
@@ -81,6 +82,7 @@ pub(crate) fn tell(s: &[u32; WORDS], r: Result<Told, Refusal>, p: PartyNumber) -
     requires { (view s.now).count ≤ 32 }
     ensures { stepped result (view s.now) ≡ answered_to (ruled_by (told_of r) (view s.now)) p.index }
 {
+    // Field by field: a `From` would be as long, with a contract of its own.
     let told = r.unwrap_or_else(|why| coded(why.code()));
     let t = tx_of(s, p);
     Answer {
@@ -99,11 +101,7 @@ pub(crate) fn turn_down(why: Refusal) -> Answer
 {
     Answer {
         code: why.code(),
-        value: 0,
-        event: 0,
-        token: 0,
-        service: 0,
-        tx: 0,
+        ..Answer::default()
     }
 }
 
@@ -113,11 +111,13 @@ pub(crate) fn call_on(s: &mut [u32; WORDS], c: Call) -> Answer
     requires { sound (view s.old) ≡ true }
     ensures { (stepped result (view s.new) ≡ call_of (view s.old) c) × (sound (view s.new) ≡ true) }
 {
-    let Ok(kind) = Kind::try_from(c.kind) else {
-        return turn_down(Refusal::UnknownKind);
+    let kind = match Kind::try_from(c.kind) {
+        Ok(kind) => kind,
+        Err(why) => return turn_down(why),
     };
-    let Ok(p) = PartyNumber::try_from(c.party) else {
-        return turn_down(Refusal::UnknownParty);
+    let p = match PartyNumber::try_from(c.party) {
+        Ok(p) => p,
+        Err(why) => return turn_down(why),
     };
     advance(s, c.clock);
     let r = rule(s, p, kind, c.a, c.b, c.c);

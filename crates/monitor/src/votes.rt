@@ -1,8 +1,9 @@
 // Kind 22: what the resource managers report; and how their reports decide a commit.
-ghost use Rattle.std.specs.Prelude.{◌≡◌, ◌<◌, ◌≤◌};
+ghost use Rattle.std.specs.Prelude.{◌≡◌, ◌<◌, ◌≤◌, MatchResult};
+ghost use Rattle.rules.specs.Codes.{no_begin};
 ghost use Rattle.rules.specs.Lists.{any_of};
-ghost use Rattle.rules.specs.Votes.{report_number, report_is, report_of, vote_code, commit_code, all_can_start};
-ghost use Rattle.monitor.specs.Ending.{EndCode};
+ghost use Rattle.rules.specs.Votes.{report_number, report_is, report_of, commit_code, all_can_start};
+ghost use Rattle.monitor.specs.Ending.{code_of_end, kind_of};
 ghost use Rattle.monitor.specs.View.{view, ruled_by, told_of};
 
 use super::Told;
@@ -12,30 +13,71 @@ use super::transaction::is_owner;
 use super::words::{WORDS, party_at, put_party};
 use rules::{Refusal, codes};
 
-// A report of b as the record keeps it, with c = 1 where the manager can't start.
-#[tactic(auto, unfolding(rules::specs::Votes::report_number, rules::specs::Choice::pick))]
-pub(crate) fn report_number(b: u32, c: u32) -> u32
-    requires { b ≤ 6 }
-    ensures { result ≡ report_number b c }
-{
-    if c == 1 { 8 + b } else { 1 + b }
+// What a resource manager reports of a transaction.
+#[derive(Clone, Copy, Debug, PartialEq, Eq)]
+pub(crate) enum Reported {
+    Prepared,
+    ReadOnly,
+    Veto,
+    Committed,
+    RolledBack,
+    Mixed,
+    Hazard,
 }
 
-// Is it a report of b?
-#[tactic(auto, unfolding(rules::specs::Votes::report_is))]
-pub(crate) fn report_is(b: u32, r: u32) -> bool
-    requires { b ≤ 6 }
-    ensures { result ≡ report_is b r }
-{
-    r == 1 + b || r == 8 + b
+impl TryFrom<u32> for Reported {
+    type Error = Refusal;
+
+    ghost use Rattle.rules.specs.declared.refusal.Refusal.TheVariants.{BadReport};
+
+    ghost try_from_gives = { λ b r. MatchResult r (λ reported. kind_of reported ≡ b) (λ e. (e ≡ BadReport) × (6 < b)) };
+
+    fn try_from(number: u32) -> Result<Reported, Refusal> {
+        Ok(match number {
+            0 => Reported::Prepared,
+            1 => Reported::ReadOnly,
+            2 => Reported::Veto,
+            3 => Reported::Committed,
+            4 => Reported::RolledBack,
+            5 => Reported::Mixed,
+            6 => Reported::Hazard,
+            _ => return Err(Refusal::BadReport),
+        })
+    }
 }
 
-// Has a manager reported b?
-pub(crate) fn some_report(b: u32, rs: [u32; 4]) -> bool
-    requires { b ≤ 6 }
-    ensures { result ≡ any_of (report_is b) rs }
-{
-    rs.iter().any(|&r| report_is(b, r))
+impl Reported {
+    // Its number in a call, which is its place in the enum.
+    fn number(self) -> u32
+        ensures { result ≡ kind_of self }
+    {
+        self as u32
+    }
+
+    // As the record keeps it, with c = 1 where the manager can't start: C's number, which is asked here alone.
+    #[tactic(auto, unfolding(rules::specs::Votes::report_number, rules::specs::Choice::pick))]
+    pub(crate) fn kept(self, c: u32) -> u32
+        ensures { result ≡ report_number (kind_of self) c }
+    {
+        let b = self.number();
+        if c == 1 { 8 + b } else { 1 + b }
+    }
+
+    // Is it what a manager reported?
+    #[tactic(auto, unfolding(rules::specs::Votes::report_is))]
+    pub(crate) fn is(self, r: u32) -> bool
+        ensures { result ≡ report_is (kind_of self) r }
+    {
+        let b = self.number();
+        r == 1 + b || r == 8 + b
+    }
+
+    // Has a manager reported it?
+    pub(crate) fn is_among(self, rs: [u32; 4]) -> bool
+        ensures { result ≡ any_of (report_is (kind_of self)) rs }
+    {
+        rs.iter().any(|&r| self.is(r))
+    }
 }
 
 // Can all managers start a new transaction?
@@ -45,56 +87,73 @@ pub(crate) fn all_can_start(rs: [u32; 4]) -> bool
     rs.iter().all(|&r| r < 8)
 }
 
-// The code by the decision, and whether a manager is mixed, is a hazard, counts as committed, counts as rolled back.
-#[tactic(auto, unfolding(rules::specs::Votes::vote_code, rules::specs::Choice::pick))]
-pub(crate) fn vote_code(
-    decision: bool,
-    mixed: bool,
-    hazard: bool,
-    committed: bool,
-    back: bool,
-) -> i64
-    ensures { (result ≡ vote_code decision mixed hazard committed back) × EndCode result }
-{
-    if mixed || committed && back {
-        codes::TX_MIXED
-    } else if hazard {
-        codes::TX_HAZARD
-    } else if committed {
-        if decision {
-            codes::TX_OK
-        } else {
-            codes::TX_COMMITTED
+// How a transaction ended.
+#[derive(Clone, Copy, Debug, PartialEq, Eq)]
+pub(crate) enum TxEnd {
+    // committed after a commit, rolled back after a rollback
+    AsAsked,
+    // rolled back in the place of a commit
+    RolledBack,
+    // TX_MIXED, TX_HAZARD, and heuristically committed
+    Mixed,
+    Hazard,
+    Committed,
+}
+
+impl TxEnd {
+    // Its code.
+    pub(crate) fn code(self) -> i64
+        ensures { result ≡ code_of_end self }
+    {
+        match self {
+            TxEnd::AsAsked => codes::TX_OK,
+            TxEnd::RolledBack => codes::TX_ROLLBACK,
+            TxEnd::Mixed => codes::TX_MIXED,
+            TxEnd::Hazard => codes::TX_HAZARD,
+            TxEnd::Committed => codes::TX_COMMITTED,
         }
-    } else if back || !decision {
-        codes::TX_ROLLBACK
-    } else {
-        codes::TX_OK
+    }
+
+    // Its code where no new transaction could begin.
+    #[tactic(auto, unfolding(rules::specs::Codes::no_begin))]
+    pub(crate) fn code_without_begin(self) -> i64
+        ensures { result ≡ no_begin (code_of_end self) }
+    {
+        self.code() + codes::TX_NO_BEGIN
     }
 }
 
-// The code of a commit: do document 01's conditions hold, and what the managers reported.
-#[tactic(auto, unfolding(rules::specs::Votes::commit_code, rules::specs::Votes::code_after, rules::specs::Votes::decides, rules::specs::Votes::some_committed, rules::specs::Votes::some_rolled_back))]
-pub(crate) fn commit_code(can: bool, rs: [u32; 4]) -> i64
-    ensures { (result ≡ commit_code can rs) × EndCode result }
+// How a commit ends: do document 01's conditions hold, and what the managers reported.
+#[tactic(auto, unfolding(rules::specs::Votes::vote_code, rules::specs::Votes::commit_code, rules::specs::Votes::code_after, rules::specs::Votes::decides, rules::specs::Votes::some_committed, rules::specs::Votes::some_rolled_back, rules::specs::Choice::pick))]
+pub(crate) fn committed(can: bool, rs: [u32; 4]) -> TxEnd
+    ensures { code_of_end result ≡ commit_code can rs }
 {
-    let prepared = some_report(0, rs);
-    let veto = some_report(2, rs);
-    let committed = some_report(3, rs);
-    let back = some_report(4, rs);
-    let mixed = some_report(5, rs);
-    let hazard = some_report(6, rs);
+    let veto = Reported::Veto.is_among(rs);
     let decision = can && !veto;
-    vote_code(
-        decision,
-        mixed,
-        hazard,
-        committed || decision && prepared,
-        back || veto || !decision && prepared,
-    )
+    let prepared = Reported::Prepared.is_among(rs);
+    // Does one count as committed, and does one as rolled back?
+    let committed = Reported::Committed.is_among(rs) || decision && prepared;
+    let back = Reported::RolledBack.is_among(rs) || veto || !decision && prepared;
+    let hazard = Reported::Hazard.is_among(rs);
+    if Reported::Mixed.is_among(rs) || committed && back {
+        TxEnd::Mixed
+    } else if hazard {
+        TxEnd::Hazard
+    } else if committed {
+        if decision {
+            TxEnd::AsAsked
+        } else {
+            TxEnd::Committed
+        }
+    } else if back || !decision {
+        TxEnd::RolledBack
+    } else {
+        TxEnd::AsAsked
+    }
 }
 
 // Kind 22.
+#[tactic(auto, using(crate::proofs::Talking::refused), unfolding(rules::specs::Votes::report_of, rules::specs::Choice::pick))]
 pub(crate) fn report(
     s: &mut [u32; WORDS],
     p: PartyNumber,
@@ -108,11 +167,13 @@ pub(crate) fn report(
     if !is_owner(s, p) {
         return Err(Refusal::NotAllowedNow);
     }
-    if a > 3 || b > 6 || c > 1 {
+    let reported = Reported::try_from(b)?;
+    if a > 3 || c > 1 {
         return Err(Refusal::BadReport);
     }
     let mut q = party_at(s, p.index);
-    q.reports[a as usize] = report_number(b, c);
+    // by `as`: Rust has no `From` from 32 bits to usize, and `try_from` cannot fail
+    q.reports[a as usize] = reported.kept(c);
     put_party(s, p.index, q);
     Ok(accept(0))
 }

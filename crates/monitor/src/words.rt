@@ -115,7 +115,7 @@ impl Store {
     }
 }
 
-// ---- the head
+// ---- the head: a function for each word, since one that takes the place would not say which field
 pub(crate) fn clock(s: &[u32; WORDS]) -> u32
     ensures { result ≡ (view s.now).clock }
 {
@@ -134,7 +134,9 @@ pub(crate) fn last_tx(s: &[u32; WORDS]) -> u32
     s[LAST_TX]
 }
 
-// How many links there are.
+// How many links there are. Contracts ask that there are at most 32, and some that the record is sound. As a fact in a type this would need a struct that
+// holds the lent words; it proves, where each function that changes them says that the struct still holds the same ones: a clause in the place of a clause.
+// By `as`, here and below: Rust has no `From` between 32 bits and usize.
 pub(crate) fn count(s: &[u32; WORDS]) -> usize
     ensures { result ≡ (view s.now).count }
 {
@@ -167,6 +169,7 @@ pub(crate) fn long(low: u32, high: u32) -> u64
     u64::from(low) | u64::from(high) << 32
 }
 
+// By `as`: of the half that is left, `try_from` would ask what cannot fail.
 fn low(x: u64) -> u32
     ensures { result ≡ low x }
 {
@@ -180,7 +183,8 @@ fn high(x: u64) -> u32
 }
 
 // ---- a party
-// The party p.
+// The party p, by its place alone: soundness, equality, searches and `clear` go over all sixteen. Field by field, here and below, each at its place by name:
+// so `specs/Words` reads them.
 pub(crate) fn party_at(s: &[u32; WORDS], p: usize) -> Party
     requires { p < 16 }
     ensures { result ≡ party (view s.now) p }
@@ -204,42 +208,6 @@ pub(crate) fn party_at(s: &[u32; WORDS], p: usize) -> Party
         mayrequest: long(s[at + MAY_REQUEST], s[at + MAY_REQUEST_HIGH]),
         mayadvertise: long(s[at + MAY_ADVERTISE], s[at + MAY_ADVERTISE_HIGH]),
     }
-}
-
-// One of its fields.
-pub(crate) fn services_at(s: &[u32; WORDS], p: usize) -> u64
-    requires { p < 16 }
-    ensures { result ≡ (party (view s.now) p).services }
-{
-    party_at(s, p).services
-}
-
-pub(crate) fn owned_at(s: &[u32; WORDS], p: usize) -> u32
-    requires { p < 16 }
-    ensures { result ≡ (party (view s.now) p).owned }
-{
-    party_at(s, p).owned
-}
-
-pub(crate) fn served_at(s: &[u32; WORDS], p: usize) -> u32
-    requires { p < 16 }
-    ensures { result ≡ (party (view s.now) p).served }
-{
-    party_at(s, p).served
-}
-
-pub(crate) fn reports_at(s: &[u32; WORDS], p: usize) -> [u32; 4]
-    requires { p < 16 }
-    ensures { result ≡ (party (view s.now) p).reports }
-{
-    party_at(s, p).reports
-}
-
-pub(crate) fn mayrequest_at(s: &[u32; WORDS], p: usize) -> u64
-    requires { p < 16 }
-    ensures { result ≡ (party (view s.now) p).mayrequest }
-{
-    party_at(s, p).mayrequest
 }
 
 // The party p becomes q.
@@ -308,49 +276,6 @@ pub(crate) fn link_at(s: &[u32; WORDS], i: usize) -> Link
         ],
         filled: s[at + FILLED],
     }
-}
-
-// One of its fields.
-pub(crate) fn number_at(s: &[u32; WORDS], i: usize) -> u32
-    requires { i < 32 }
-    ensures { result ≡ (link_in (view s.now) i).number }
-{
-    link_at(s, i).number
-}
-
-pub(crate) fn kind_at(s: &[u32; WORDS], i: usize) -> u32
-    requires { i < 32 }
-    ensures { result ≡ (link_in (view s.now) i).kind }
-{
-    link_at(s, i).kind
-}
-
-pub(crate) fn originator_at(s: &[u32; WORDS], i: usize) -> u32
-    requires { i < 32 }
-    ensures { result ≡ (link_in (view s.now) i).originator }
-{
-    link_at(s, i).originator
-}
-
-pub(crate) fn attached_at(s: &[u32; WORDS], i: usize) -> u32
-    requires { i < 32 }
-    ensures { result ≡ (link_in (view s.now) i).attached }
-{
-    link_at(s, i).attached
-}
-
-pub(crate) fn tx_at(s: &[u32; WORDS], i: usize) -> u32
-    requires { i < 32 }
-    ensures { result ≡ (link_in (view s.now) i).tx }
-{
-    link_at(s, i).tx
-}
-
-pub(crate) fn state_at(s: &[u32; WORDS], i: usize) -> u32
-    requires { i < 32 }
-    ensures { result ≡ (link_in (view s.now) i).state }
-{
-    link_at(s, i).state
 }
 
 // The link at the place i becomes l.

@@ -1,7 +1,6 @@
 -- Laws of choice.
 -- Assumes nothing.
-use mathlib.Core.Path.{◌≡◌, refl}
-use mathlib.Core.Bool.{Bool, true, false}
+use Rattle.std.proofs.Common.{◌≡◌, refl, Bool, true, false}
 use Rattle.number.specs.Choice.{pick}
 
 module _ {A : Type 0} where

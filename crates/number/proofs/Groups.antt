@@ -1,15 +1,6 @@
 -- Reading and writing, one group at a time.
 -- Assumes nothing.
-use Prim.Native.Nat.{ℕ, zero, suc, ◌+◌, ◌-◌, ◌*◌, ◌^◌, ◌≤◌, ◌<◌, ◌/◌, ◌%◌}
-use mathlib.Core.Path.{◌≡◌, refl, ap, sym, ◌∙◌}
-use mathlib.Core.List.{List, [], ◌∷◌}
-use native.Mathlib.Nat.{add-mul, mul_assoc, mul_comm, add_assoc}
-use native.Mathlib.Numerals.{add-one}
-use native.Mathlib.Omega.{arith}
-use borrow.Author.Tests.{ne_eqb, lt-ltb, le-ltb}
-use lib.Dec.{ltb}
-use lib.ListN.{length, drop, get_or, drop_of_length-le}
-use lib.Seq.{drop-cons}
+use Rattle.std.proofs.Common.{ℕ, zero, suc, ◌+◌, ◌-◌, ◌*◌, ◌^◌, ◌≤◌, ◌<◌, ◌/◌, ◌%◌, ◌≡◌, refl, ap, sym, ◌∙◌, List, [], ◌∷◌, add-mul, mul_assoc, mul_comm, add_assoc, add-one, arith, ne_eqb, lt-ltb, le-ltb, ltb, length, drop, get_or, drop_of_length-le, drop-cons}
 use Rattle.number.specs.Choice.{pick}
 use Rattle.number.specs.Reader.{Reading, number, refused, continued, read_groups, group_count}
 use Rattle.number.specs.Writer.{number_bytes}

@@ -1,18 +1,8 @@
 -- Laws of reading, for any most bytes and most bits: the three answers, the bounds of a number, and that only its own bytes count.
 -- Assumes nothing.
-use Prim.Native.Nat.{ℕ, zero, suc, ◌+◌, ◌-◌, ◌*◌, ◌%◌, ◌^◌, ◌≤◌, ◌<◌}
-use mathlib.Core.Path.{◌≡◌, refl, ap, sym, ◌∙◌, subst}
-use mathlib.Core.Logic.{◌⊎◌, inl, inr, ⊎_elim}
-use mathlib.Core.Bool.{Bool, true, false}
-use mathlib.Core.List.{List, [], ◌∷◌, ◌++◌}
-use native.Mathlib.Nat.{zero-add, suc-add}
-use native.Mathlib.Omega.{arith}
-use borrow.Author.Tests.{ltb-true, ltb-false}
-use lib.Arith.{digits_lt}
-use lib.Dec.{ltb}
-use lib.Pow.{pow-add}
-use lib.ListN.{length, take, drop, length-drop}
-use lib.Seq.{take-append-le, take-nil, drop-append-le, drop-drop}
+use Rattle.std.proofs.Common.{ℕ, zero, suc, ◌+◌, ◌-◌, ◌*◌, ◌%◌, ◌^◌, ◌≤◌, ◌<◌, ◌≡◌, refl, ap, sym, ◌∙◌, subst, ◌⊎◌, inl, inr, ⊎_elim, Bool, true, false, List, [], ◌∷◌, ◌++◌, arith, ltb-true, ltb-false, ltb, pow-add, length, take, drop, length-drop, drop-drop}
+use Rattle.std.proofs.Math.Arith.{digits_lt}
+use Rattle.std.proofs.lemmas.List.{take-append-le, drop-append-le}
 use Rattle.number.specs.Choice.{pick}
 use Rattle.number.specs.Reader.{Reading, number, refused, continued, read_groups, read_number, group_count, number_end}
 use Rattle.number.proofs.Choice.{by_test_lem}
@@ -201,12 +191,6 @@ module _ (most bits : ℕ) (input : List ℕ) (place : ℕ) where
       where
         go : ReadAs most bits place (drop place input) (number value next) → next ≤ length input
         go (accepted v n small end some few) = omega (arith, length-drop place input)
-
-pub drop_take : (place count : ℕ) (input : List ℕ) → drop place (take (place + count) input) ≡ take count (drop place input)
-drop_take zero count input = ap (λ (k : ℕ). take k input) (zero-add count)
-drop_take (suc place) count [] = ap (drop (suc place)) (take-nil (suc place + count)) ∙ sym (take-nil count)
-drop_take (suc place) count (byte ∷ input) =
-    ap (λ (k : ℕ). drop (suc place) (take k (byte ∷ input))) (suc-add place count) ∙ drop_take place count input
 
 -- What follows does not matter, unless the number is cut short.
 pub answer_extends : (most bits : ℕ) (input more : List ℕ) (place : ℕ) → place ≤ length input → (read_number most bits input place ≡ refused 17 → ⊥)

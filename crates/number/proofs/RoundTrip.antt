@@ -1,14 +1,6 @@
 -- What is written is read, and what is read is what is written: one form for each number, for any most bytes and most bits.
 -- Assumes nothing.
-use Prim.Native.Nat.{ℕ, zero, suc, ◌+◌, ◌-◌, ◌*◌, ◌/◌, ◌%◌, ◌^◌, ◌≤◌, ◌<◌}
-use mathlib.Core.Path.{◌≡◌, ap, ap₂, sym, ◌∙◌, subst}
-use mathlib.Core.Logic.{⊎_elim}
-use mathlib.Core.List.{List, [], ◌∷◌, ◌++◌, append_assoc}
-use native.Mathlib.Omega.{arith}
-use lib.Dec.{ltb}
-use lib.Pow.{pow_mono, shr_lt}
-use lib.ListN.{length, take, drop, get_or, length-drop, take-append-drop}
-use lib.Seq.{get_or-drop, drop_at, length-take-le, take-add}
+use Rattle.std.proofs.Common.{ℕ, zero, suc, ◌+◌, ◌-◌, ◌*◌, ◌/◌, ◌%◌, ◌^◌, ◌≤◌, ◌<◌, ◌≡◌, ap, ap₂, sym, ◌∙◌, subst, ⊎_elim, List, [], ◌∷◌, ◌++◌, append_assoc, arith, ltb, pow_mono, shr_lt, length, take, drop, get_or, length-drop, take-append-drop, get_or-drop, drop_at, length-take-le, take-add}
 use Rattle.number.specs.Reader.{Reading, number, refused, continued, read_groups, read_number, group_count, number_end}
 use Rattle.number.specs.Writer.{written, number_bytes, write_answer, write_buffer}
 use Rattle.number.proofs.Choice.{by_test_lem}

@@ -1,18 +1,11 @@
--- What holds before each turn of the writer's loop over the groups, for any most bytes; what writing any bytes answers and leaves.
+-- What holds before each turn of the writer's loop over the groups, for any most bytes; what writing any bytes answers and leaves; a number's groups.
 -- Assumes nothing.
-use Prim.Native.Nat.{ℕ, zero, suc, ◌+◌, ◌-◌, ◌*◌, ◌^◌, ◌≤◌, ◌<◌, ◌/◌, ◌%◌}
-use mathlib.Core.Path.{◌≡◌, ap, sym, ◌∙◌, subst}
-use mathlib.Core.Logic.{⊎_elim}
-use mathlib.Core.List.{List, [], ◌∷◌, ◌++◌, append_assoc}
-use native.Mathlib.Numerals.{add-one}
-use native.Mathlib.Omega.{arith}
-use lib.Pow.{shr_lt}
-use lib.ListN.{length, take, drop, set, length-set}
-use borrow.Author.Tests.{le-leb, lt-leb}
-use lib.Seq.{sets, sets-eq, drop_at, take_at, length-take-le}
+use Rattle.std.proofs.Common.{ℕ, zero, suc, ◌+◌, ◌-◌, ◌*◌, ◌^◌, ◌≤◌, ◌<◌, ◌/◌, ◌%◌, ◌≡◌, ap, sym, ◌∙◌, subst, ⊎_elim, List, [], ◌∷◌, ◌++◌, append_assoc, add-one, arith, shr_lt, length, take, drop, set, length-set, le-leb, drop_at, take_at, length-take-le}
+use Rattle.std.proofs.lemmas.Bool.{lt-leb}
+use Rattle.std.proofs.lemmas.List.Edits.{sets, sets-eq}
 use Rattle.number.specs.Writer.{written, unwritten, number_bytes, fits, write_answer, write_buffer}
 use Rattle.number.proofs.Choice.{pick_true, pick_false}
-use Rattle.number.proofs.Groups.{bytes_last, bytes_more, bytes_some}
+use Rattle.number.proofs.Groups.{bytes_last, bytes_more}
 use Rattle.number.proofs.Reading.{below_or_not}
 
 -- The bytes of `rest`, stored from `at` on, make the list `after` and end at `next`; at most `left` of them come, and the buffer has `long` bytes.
@@ -25,22 +18,6 @@ pub record Store (next long : ℕ) (after buffer : List ℕ) (rest at left : ℕ
   pub room : next ≤ long
 
 module _ {next long : ℕ} {after buffer : List ℕ} {rest at left : ℕ} (s : Store next long after buffer rest at left) where
-  pub within : at < length buffer
-  within = omega (arith, s.ends, s.as_long, s.room, bytes_some left rest s.some)
-
-  only : rest < 128 → number_bytes left rest ≡ rest ∷ []
-  only h = go left s.some
-    where
-      go : (m : ℕ) → 0 < m → number_bytes m rest ≡ rest ∷ []
-      go zero k = absurd (omega arith)
-      go (suc m) k = bytes_last m rest h
-
-  pub last_next : rest < 128 → at + 1 ≡ next
-  last_next h = let e : length (number_bytes left rest) ≡ 1 = ap length (only h) in omega (arith, s.ends)
-
-  pub last_makes : rest < 128 → set buffer at rest ≡ after
-  last_makes h = ap (sets buffer at) (sym (only h)) ∙ s.makes
-
   module _ (fewer : ℕ) (h : 128 ≤ rest) (e : left ≡ suc fewer) where
     first : number_bytes left rest ≡ (rest % 128 + 128) ∷ number_bytes fewer (rest / 128)
     first = ap (λ (m : ℕ). number_bytes m rest) e ∙ bytes_more fewer rest h
@@ -111,3 +88,40 @@ module _ (buffer : List ℕ) (place : ℕ) (bytes : List ℕ) where
         ap (λ (l : List ℕ). take (next - place) (drop place l)) (sym (fit_list answer_fits) ∙ append_assoc (take place buffer) bytes after)
         ∙ ap (take (next - place)) (drop_at (take place buffer) (bytes ++ after) place (length-take-le place buffer (omega arith)))
         ∙ take_at bytes after (next - place) (sym long)
+
+-- ---- a number stored group by group
+
+-- the last group
+module _ (most value : ℕ) (some : 0 < most) (h : value < 128) where
+  bytes_one : number_bytes most value ≡ value ∷ []
+  bytes_one = go most some
+    where
+      go : (m : ℕ) → 0 < m → number_bytes m value ≡ value ∷ []
+      go zero k = absurd (omega arith)
+      go (suc m) k = bytes_last m value h
+
+  pub one_long : length (number_bytes most value) ≡ 1
+  one_long = ap length bytes_one
+
+  pub one_set : (buffer : List ℕ) (at : ℕ) → sets buffer at (number_bytes most value) ≡ set buffer at value
+  one_set buffer at = ap (sets buffer at) bytes_one
+
+-- a first group, and what is left
+pub one_byte_more : (value : ℕ) → 128 ≤ value → length (number_bytes 5 value) ≡ suc (length (number_bytes 4 (value / 128)))
+one_byte_more value h = ap length (bytes_more 4 value h)
+
+module _ (buffer : List ℕ) (place value : ℕ) where
+  pub one_stored : value < 128 → place < length buffer → set buffer place value ≡ write_buffer buffer place (number_bytes 5 value)
+  one_stored h k =
+      sym (one_set 5 value (omega arith) h buffer place)
+      ∙ fit_buffer buffer place (number_bytes 5 value) (omega (arith, one_long 5 value (omega arith) h))
+
+  module _ (h : 128 ≤ value) (k : place + length (number_bytes 5 value) ≤ length buffer) where
+    pub rest_fits : place + 1 + length (number_bytes 4 (value / 128)) ≤ length (set buffer place (value % 128 + 128))
+    rest_fits = rw length-set (omega (arith, one_byte_more value h))
+
+    pub more_stored : sets (set buffer place (value % 128 + 128)) (place + 1) (number_bytes 4 (value / 128)) ≡ write_buffer buffer place (number_bytes 5 value)
+    more_stored =
+        ap (λ (at : ℕ). sets (set buffer place (value % 128 + 128)) at (number_bytes 4 (value / 128))) (add-one place)
+        ∙ ap (sets buffer place) (sym (bytes_more 4 value h))
+        ∙ fit_buffer buffer place (number_bytes 5 value) k

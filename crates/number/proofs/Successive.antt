@@ -1,16 +1,8 @@
 -- Laws of numbers one after the other: how they are read, stored and measured, and that what is written is read and what is read is written.
 -- Assumes nothing.
-use Prim.Native.Nat.{ℕ, zero, suc, ◌+◌, ◌-◌, ◌^◌, ◌≤◌, ◌<◌}
-use mathlib.Core.Path.{◌≡◌, refl, ap, sym, ◌∙◌, subst}
-use mathlib.Core.Bool.{true, false}
-use mathlib.Core.Logic.{◌⊎◌, inl, inr, ⊎_elim}
-use mathlib.Core.List.{List, [], ◌∷◌, ◌++◌, append_assoc, append-nil}
-use native.Mathlib.Numerals.{add-one}
-use native.Mathlib.Omega.{arith}
-use borrow.Author.Tests.{le-leb, lt-leb, lt-ltb, le-ltb}
-use lib.Dec.{leb}
-use lib.ListN.{length, drop, get_or, set, length-append, drop_of_length-le, take-append-drop}
-use lib.Seq.{sets, length-sets, drop-cons, drop_at, drop-drop}
+use Rattle.std.proofs.Common.{ℕ, zero, suc, ◌+◌, ◌-◌, ◌^◌, ◌≤◌, ◌<◌, ◌≡◌, refl, ap, sym, ◌∙◌, subst, ◌⊎◌, inl, inr, ⊎_elim, List, [], ◌∷◌, ◌++◌, append_assoc, append-nil, add-one, arith, lt-ltb, le-ltb, length, drop, get_or, set, length-append, drop_of_length-le, take-append-drop, drop-cons, drop_at, drop-drop}
+use Rattle.std.proofs.lemmas.List.Edits.{sets}
+use Rattle.std.proofs.Math.Seq.{length-sets}
 use Rattle.number.specs.Reader.{Reading, number, refused, read_groups, read_number}
 use Rattle.number.specs.Writer.{number_bytes, written, unwritten, write_answer, write_buffer}
 use Rattle.number.specs.Numbers.{Numbers, numbers, stopped, ahead, onward, read_numbers, numbers_from, all_numbers, numbers_bytes}
@@ -113,38 +105,12 @@ module _ (values : List ℕ) (i : ℕ) where
   unfolding numbers_bytes
   bytes_end h = ap numbers_bytes (drop_of_length-le values h)
 
--- ---- is there room?
+  pub long_next : i < length values
+      → length (numbers_bytes (drop i values)) ≡ length (number_bytes 5 (get_or values i 0)) + length (numbers_bytes (drop (i + 1) values))
+  long_next h = ap length (bytes_next h) ∙ length-append (number_bytes 5 (get_or values i 0)) (numbers_bytes (drop (i + 1) values))
 
--- The bytes of the first `i` numbers have been taken off the room.
-pub record Measures (values : List ℕ) (room left i : ℕ) : Type 0 where
-  pub few : i ≤ length values
-  pub tells : length (numbers_bytes values) + left ≡ room + length (numbers_bytes (drop i values))
-
-pub measures_none : (values : List ℕ) (room : ℕ) → Measures values room room 0
-measures_none values room = record { few = omega arith; tells = omega arith }
-
-module _ {values : List ℕ} {room left i : ℕ} (m : Measures values room left i) where
-  module _ (h : i < length values) (needed : ℕ) (e : needed ≡ length (number_bytes 5 (get_or values i 0))) where
-    total : length (numbers_bytes (drop i values)) ≡ needed + length (numbers_bytes (drop (i + 1) values))
-    total =
-        ap length (bytes_next values i h)
-        ∙ length-append (number_bytes 5 (get_or values i 0)) (numbers_bytes (drop (i + 1) values))
-        ∙ ap (λ (k : ℕ). k + length (numbers_bytes (drop (i + 1) values))) (sym e)
-
-    pub measures_one : needed ≤ left → Measures values room (left - needed) (i + 1)
-    measures_one k = record { few = omega arith; tells = omega (arith, m.tells, total) }
-
-    pub measures_over : left < needed → false ≡ leb (length (numbers_bytes values)) room
-    measures_over k = sym (lt-leb _ _ over)
-      where
-        over : room < length (numbers_bytes values)
-        over = omega (arith, m.tells, total)
-
-  pub measures_all : length values ≤ i → true ≡ leb (length (numbers_bytes values)) room
-  measures_all h = sym (le-leb _ _ fits)
-    where
-      fits : length (numbers_bytes values) ≤ room
-      fits = omega (arith, m.tells, ap length (bytes_end values i h))
+  pub long_end : length values ≤ i → length (numbers_bytes (drop i values)) ≡ 0
+  long_end h = ap length (bytes_end h)
 
 -- ---- the numbers written
 
@@ -167,7 +133,7 @@ module _ {before : List ℕ} {place : ℕ} {values buffer : List ℕ} {at i : �
 
     size : length (numbers_bytes (drop i values)) ≡ length (number_bytes 5 value) + length (numbers_bytes (drop (i + 1) values))
     unfolding value
-    size = ap length (bytes_next values i h) ∙ length-append (number_bytes 5 value) (numbers_bytes (drop (i + 1) values))
+    size = long_next values i h
 
     fits : at + length (number_bytes 5 value) ≤ length buffer
     fits = omega (arith, w.ends, w.room, w.long, size)

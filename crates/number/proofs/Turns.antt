@@ -1,13 +1,7 @@
 -- What holds before each turn of the reader's loop over the groups, for any most bytes and most bits.
 -- Assumes nothing.
-use Prim.Native.Nat.{ℕ, ◌+◌, ◌-◌, ◌*◌, ◌^◌, ◌%◌, ◌≤◌, ◌<◌}
-use mathlib.Core.Path.{◌≡◌, ap, sym, ◌∙◌}
-use mathlib.Core.List.{List}
-use native.Mathlib.Nat.{add_comm}
-use native.Mathlib.Omega.{arith}
-use lib.Arith.{digits_lt}
-use lib.Pow.{pow-add, pow_mono}
-use lib.ListN.{length, drop, get_or}
+use Rattle.std.proofs.Common.{ℕ, ◌+◌, ◌-◌, ◌*◌, ◌^◌, ◌%◌, ◌≤◌, ◌<◌, ◌≡◌, ap, sym, ◌∙◌, List, add_comm, arith, pow-add, pow_mono, length, drop, get_or}
+use Rattle.std.proofs.Math.Arith.{digits_lt}
 use Rattle.number.specs.Reader.{Reading, number, refused, continued, read_groups}
 use Rattle.number.proofs.Groups.{continued_zero, continued_high, continued_twice, front_only, rest_at, place_past, place_last, place_more}
 

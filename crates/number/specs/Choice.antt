@@ -1,4 +1,4 @@
--- Choice by a test, which stays shut in goals.
+-- Choice by a test, which stays shut in goals. `rules` has its own, since the two share no crate.
 -- Assumes nothing.
 use Rattle.std.specs.Prelude.{Bool, true, false}
 

@@ -1,4 +1,5 @@
-// Numbers in groups of seven bits, lowest first: a reader and a writer on byte slices, and a writer of many.
+// Numbers in groups of seven bits, lowest first: a reader and a writer on byte slices, and a writer of many. A slice and a place in it are two arguments
+// throughout, since a caller keeps its slice and goes on at the place that it is told.
 #![tactic(auto)]
 
 mod numbers;

@@ -13,14 +13,14 @@ pub enum ReadError {
 }
 
 // The number at a place of the input, and the place after its last byte.
+#[tactic(auto, using(crate::proofs::Groups::place_past, crate::proofs::Groups::place_last, crate::proofs::Groups::place_more), unfolding(crate::specs::Answers::decoded, crate::specs::Reader::read_number))]
 pub fn decode(input: &[u8], place: usize) -> Result<(u32, usize), ReadError>
     ensures { decoded result ≡ read_number 5 32 input.now place }
 {
     if input.len() <= place {
         return Err(ReadError::CutShort);
     }
-    // Widened by `as`, here and below: a `From` is a call, whose result each goal would first have to name.
-    let first = input[place] as u32;
+    let first = u32::from(input[place]);
     if first < 128 {
         return Ok((first, place + 1));
     }
@@ -28,17 +28,19 @@ pub fn decode(input: &[u8], place: usize) -> Result<(u32, usize), ReadError>
 }
 
 // The groups from the second on, where the first is `low`.
+#[tactic(auto, using(crate::proofs::Turns::cut_short), unfolding(crate::specs::Answers::decoded))]
 fn decode_rest(input: &[u8], place: usize, low: u32) -> Result<(u32, usize), ReadError>
     requires { low < 128 }
     ensures { decoded result ≡ continued low 128 (read_groups 4 25 place (drop place input.now)) }
 {
     let mut value = low;
     let mut at = place;
+    // The place goes on beside the weights, since the input may end at each of them.
     for weight in [128, 16384, 2097152] {
         if input.len() <= at {
             return Err(ReadError::CutShort);
         }
-        let byte = input[at] as u32;
+        let byte = u32::from(input[at]);
         at += 1;
         value += byte % 128 * weight;
         if byte < 128 {
@@ -51,7 +53,7 @@ fn decode_rest(input: &[u8], place: usize, low: u32) -> Result<(u32, usize), Rea
     if input.len() <= at {
         return Err(ReadError::CutShort);
     }
-    let last = input[at] as u32;
+    let last = u32::from(input[at]);
     if last == 0 || 15 < last {
         return Err(ReadError::Malformed);
     }

@@ -10,6 +10,7 @@ pub struct NoRoom;
 
 // Puts a number into the buffer at a place, and answers the place after its last byte. Where there is no room for all of it, the
 // buffer stays as it was.
+#[tactic(auto, using(crate::proofs::Stores::fit_answer, crate::proofs::Stores::unfit_answer, crate::proofs::Stores::unfit_buffer, crate::proofs::Groups::bytes_some, crate::proofs::Stores::one_long, crate::proofs::Stores::one_byte_more, crate::proofs::Stores::one_stored, crate::proofs::Stores::rest_fits, crate::proofs::Stores::more_stored), unfolding(crate::specs::Answers::encoded))]
 pub fn encode(buffer: &mut [u8], place: usize, value: u32) -> Result<usize, NoRoom>
     ensures answer { encoded result ≡ write_answer buffer.old place (number_bytes 5 value) }
     ensures bytes { buffer.new ≡ write_buffer buffer.old place (number_bytes 5 value) }
@@ -18,6 +19,7 @@ pub fn encode(buffer: &mut [u8], place: usize, value: u32) -> Result<usize, NoRo
         return Err(NoRoom);
     }
     if value < 128 {
+        // Narrowed by `as`, here and below: a group is below 256, and `try_from` would give a `Result` for it.
         buffer[place] = value as u8;
         return Ok(place + 1);
     }
@@ -31,23 +33,21 @@ pub fn encode(buffer: &mut [u8], place: usize, value: u32) -> Result<usize, NoRo
 }
 
 // How many bytes a number takes.
-pub fn size(value: u32) -> usize
+#[tactic(auto, using(crate::proofs::Groups::bytes_last, crate::proofs::Groups::bytes_more))]
+pub(crate) fn size(value: u32) -> usize
     ensures { result ≡ length (number_bytes 5 value) }
 {
-    if value < 128 {
-        1
-    } else if value < 16384 {
-        2
-    } else if value < 2097152 {
-        3
-    } else if value < 268435456 {
-        4
-    } else {
-        5
+    match value {
+        0..128 => 1,
+        128..16384 => 2,
+        16384..2097152 => 3,
+        2097152..268435456 => 4,
+        _ => 5,
     }
 }
 
 // The groups from the second on; the answer is the place after them.
+#[tactic(auto, using(crate::proofs::Groups::bytes_some, crate::proofs::Stores::one_long, crate::proofs::Stores::one_set))]
 fn encode_rest(buffer: &mut [u8], place: usize, value: u32) -> usize
     requires value_bound { value < 2 ^ 28 }
     requires value_in_bounds { place + length (number_bytes 4 value) ≤ length buffer.old }

@@ -2,9 +2,11 @@
 #![tactic(auto)]
 
 // The sum of the numbers at the front of the input, up to its end or the first refusal.
+#[tactic(auto, using(number::proofs::Reading::number_after, number::proofs::Reading::number_within), unfolding(number::specs::Answers::decoded))]
 pub fn number_timing_read(input: &[u8]) -> u64 {
     let mut sum: u64 = 0;
     let mut place = 0;
+    // The next place is what `decode` tells, so there is nothing for a `for` to go over.
     while let Ok((value, next)) = number::decode(input, place) {
         sum = sum.wrapping_add(u64::from(value));
         place = next;

@@ -13,6 +13,38 @@ const VALUES: [u32; 14] = [
     2147483648, 4294967295,
 ];
 
+// Inputs at the borders of each length, and at those of what is refused.
+const INPUTS: [&[u8]; 24] = [
+    b"\x00",
+    b"\x7F",
+    b"\x80\x01",
+    b"\xAC\x02",
+    b"\x80\x00",
+    b"\xFF\x00",
+    b"\xFF\x7F",
+    b"\x80\x80\x00",
+    b"\x80\x80\x01",
+    b"\xFF\xFF\x7F",
+    b"\x80\x80\x80\x00",
+    b"\x80\x80\x80\x01",
+    b"\xFF\xFF\xFF\x7F",
+    b"\x80\x80\x80\x80\x00",
+    b"\x81\x80\x80\x80\x00",
+    b"\x80\x80\x80\x80\x01",
+    b"\x80\x80\x80\x80\x0F",
+    b"\x80\x80\x80\x80\x10",
+    b"\x80\x80\x80\x80\x7F",
+    b"\xFF\xFF\xFF\xFF\x0F",
+    b"\xFF\xFF\xFF\xFF\x10",
+    b"\xFF\xFF\xFF\xFF\x80",
+    b"\x80\x80\x80\x80\x80\x00",
+    b"\xFF\xFF\xFF\xFF\xFF\x01",
+];
+
+// The greatest number of each length; it keeps of a number what that length holds.
+const GREATEST: [u32; 5] = [127, 16383, 2097151, 268435455, 4294967295];
+
+// Errors are printed as the codes that a file is refused with: their types are of another crate, so `Display` would need a wrapper for each.
 fn show_read(out: &impl Print, input: &[u8], place: usize) -> io::Result<()> {
     print!(out; "read{} at {place}: ", Hex(input))?;
     match number::decode(input, place) {
@@ -33,21 +65,13 @@ fn show_write(out: &impl Print, buffer: &mut [u8], place: usize, value: u32) -> 
     show_read(out, buffer, place)
 }
 
-// Writes a number into the first bytes of eight.
-fn write_in_room(out: &impl Print, room: usize, place: usize, value: u32) -> io::Result<()> {
-    let mut buffer = [0xEEu8; 8];
-    if room <= 8 {
-        show_write(out, &mut buffer[..room], place, value)?;
-    }
-    Ok(())
-}
-
 // Each number at the borders in rooms of up to six bytes, at places from 0 to 2.
 fn write_borders(out: &impl Print) -> io::Result<()> {
     for value in VALUES {
         for room in 0..7 {
             for place in 0..3 {
-                write_in_room(out, room, place, value)?;
+                let mut buffer = [0xEE; 6];
+                show_write(out, &mut buffer[..room], place, value)?;
             }
         }
     }
@@ -65,118 +89,71 @@ fn read_border(out: &impl Print, input: &[u8]) -> io::Result<()> {
     Ok(())
 }
 
-fn read_short_borders(out: &impl Print) -> io::Result<()> {
-    read_border(out, b"\x00")?;
-    read_border(out, b"\x7F")?;
-    read_border(out, b"\x80\x01")?;
-    read_border(out, b"\xAC\x02")?;
-    read_border(out, b"\x80\x00")?;
-    read_border(out, b"\xFF\x00")?;
-    read_border(out, b"\xFF\x7F")?;
-    read_border(out, b"\x80\x80\x00")?;
-    read_border(out, b"\x80\x80\x01")?;
-    read_border(out, b"\xFF\xFF\x7F")?;
-    read_border(out, b"\x80\x80\x80\x00")?;
-    read_border(out, b"\x80\x80\x80\x01")?;
-    read_border(out, b"\xFF\xFF\xFF\x7F")
-}
-
-fn read_long_borders(out: &impl Print) -> io::Result<()> {
-    read_border(out, b"\x80\x80\x80\x80\x00")?;
-    read_border(out, b"\x81\x80\x80\x80\x00")?;
-    read_border(out, b"\x80\x80\x80\x80\x01")?;
-    read_border(out, b"\x80\x80\x80\x80\x0F")?;
-    read_border(out, b"\x80\x80\x80\x80\x10")?;
-    read_border(out, b"\x80\x80\x80\x80\x7F")?;
-    read_border(out, b"\xFF\xFF\xFF\xFF\x0F")?;
-    read_border(out, b"\xFF\xFF\xFF\xFF\x10")?;
-    read_border(out, b"\xFF\xFF\xFF\xFF\x80")?;
-    read_border(out, b"\x80\x80\x80\x80\x80\x00")?;
-    read_border(out, b"\xFF\xFF\xFF\xFF\xFF\x01")
-}
-
-// The next state of the generator that draws numbers, below 2^31.
-fn step(state: u64) -> u64 {
-    (state % 2147483648 * 1103515245 + 12345) % 2147483648
-}
-
-// The better bits of a state: a number below 2^15.
-fn draw(state: u64) -> u64
-    ensures { result < 32768 }
-{
-    state / 65536 % 32768
-}
-
-// A number of one length of the five.
-fn limited(drawn: u64, length: usize) -> u32 {
-    match length {
-        0 => (drawn % 128) as u32,
-        1 => (drawn % 16384) as u32,
-        2 => (drawn % 2097152) as u32,
-        3 => (drawn % 268435456) as u32,
-        _ => (drawn % 4294967296) as u32,
-    }
-}
-
-// Writes a number that is drawn in three steps, and answers the last state.
-fn write_one(out: &impl Print, state: u64, i: usize) -> io::Result<u64> {
-    let high = step(state);
-    let middle = step(high);
-    let low = step(middle);
-    let drawn = (draw(high) * 32768 + draw(middle)) * 32768 + draw(low);
-    write_in_room(out, 8, i % 4, limited(drawn, i % 5))?;
-    Ok(low)
-}
-
-fn write_drawn(out: &impl Print) -> io::Result<()> {
-    let mut state: u64 = 1;
-    for i in 0..200 {
-        state = write_one(out, state, i)?;
+fn read_borders(out: &impl Print) -> io::Result<()> {
+    for input in INPUTS {
+        read_border(out, input)?;
     }
     Ok(())
 }
 
-// A byte of an input that is drawn: three of four go on.
-fn drawn_byte(state: u64) -> u8 {
-    let drawn = draw(state);
-    let group = drawn / 4 % 128;
-    if drawn % 4 == 0 {
-        group as u8
-    } else {
-        (group + 128) as u8
+// A generator of numbers.
+#[derive(Drop)]
+struct Generator {
+    state: u64,
+}
+
+impl Generator {
+    // The better bits of the next state, which is below 2^31: a number below 2^15.
+    fn draw(&mut self) -> u64
+        ensures { result < 32768 }
+    {
+        self.state = (self.state % 2147483648 * 1103515245 + 12345) % 2147483648;
+        self.state / 65536 % 32768
+    }
+
+    // A number drawn in three steps. Narrowed by `as` after a remainder, here and below: `try_from` would give a `Result` for what always fits.
+    fn number(&mut self) -> u32 {
+        let high = self.draw();
+        let middle = self.draw();
+        let low = self.draw();
+        (((high * 32768 + middle) * 32768 + low) % 4294967296) as u32
+    }
+
+    // A byte of an input: three of four go on.
+    fn byte(&mut self) -> u8 {
+        let drawn = self.draw();
+        let group = (drawn / 4 % 128) as u8;
+        if drawn % 4 == 0 { group } else { group + 128 }
     }
 }
 
-// Fills the bytes, and answers the last state.
-fn fill(first: u64, bytes: &mut [u8]) -> u64 {
-    let mut state = first;
-    for byte in bytes.iter_mut() {
-        state = step(state);
-        *byte = drawn_byte(state);
+// Numbers that are drawn, of each length in turn.
+fn write_drawn(out: &impl Print) -> io::Result<()> {
+    let mut generator = Generator { state: 1 };
+    for i in 0..200 {
+        let mut buffer = [0xEE; 8];
+        let value = generator.number() & GREATEST[i % 5];
+        show_write(out, &mut buffer, i % 4, value)?;
     }
-    state
+    Ok(())
 }
 
-// Reads seven bytes that are drawn, or the first of them.
-fn read_one(out: &impl Print, state: u64, i: usize) -> io::Result<u64> {
-    let mut bytes = [0u8; 7];
-    let last = fill(state, &mut bytes);
-    show_read(out, &bytes[..i % 8], i / 8 % 3)?;
-    Ok(last)
-}
-
+// Seven bytes that are drawn, or the first of them.
 fn read_drawn(out: &impl Print) -> io::Result<()> {
-    let mut state: u64 = 2;
+    let mut generator = Generator { state: 2 };
     for i in 0..300 {
-        state = read_one(out, state, i)?;
+        let mut bytes = [0; 7];
+        for byte in &mut bytes {
+            *byte = generator.byte();
+        }
+        show_read(out, &bytes[..i % 8], i / 8 % 3)?;
     }
     Ok(())
 }
 
 fn main(rt: HostRuntime) -> io::Result<()> {
     write_borders(&rt)?;
-    read_short_borders(&rt)?;
-    read_long_borders(&rt)?;
+    read_borders(&rt)?;
     write_drawn(&rt)?;
     read_drawn(&rt)
 }

@@ -15,7 +15,7 @@ fn show_call(rt: &impl Print, call: Call) -> io::Result<()> {
     )
 }
 
-// What stands at a place; the place after it, where it is a call. Errors are printed as the codes that a file is refused with: their enums are
+// What stands at a place; the place after it where it is a call, and else the place itself, which `show_write` reads again. Errors are printed as the codes that a file is refused with: their enums are
 // of other crates, so `Display` would need a wrapper for each, for two numbers.
 fn show_read(rt: &impl Print, name: &str, input: &[u8], place: usize) -> io::Result<usize> {
     print!(rt; "read_call {name} at {place}: ")?;
@@ -48,7 +48,7 @@ pub fn reads(rt: &HostRuntime) -> io::Result<()> {
     Ok(())
 }
 
-// The numbers of a file's calls, each of which takes a byte or more.
+// The numbers of a file's calls, each of which takes a byte or more. Here alone a call becomes its six numbers, so no `From` stands for it.
 pub fn numbers(rt: &HostRuntime, input: &[u8]) -> Result<Vec<u32>, AllocError> {
     let mut list = Vec::new(rt.alloc());
     let mut at = 0;
@@ -90,21 +90,26 @@ fn write(rt: &impl Print, list: &[u32], count: usize, place: usize, room: usize)
 }
 
 fn write_list(rt: &impl Print, list: &[u32]) -> io::Result<()> {
-    write(rt, list, 12, 0, 27)?;
-    write(rt, list, 12, 0, 26)?;
-    write(rt, list, 12, 2, 29)?;
-    write(rt, list, 12, 2, 28)?;
-    write(rt, list, 12, 2, 32)?;
-    write(rt, list, 6, 0, 13)?;
-    write(rt, list, 6, 0, 12)?;
-    write(rt, list, 0, 4, 4)?;
-    write(rt, list, 0, 5, 4)?;
-    write(rt, list, 6, 5, 4)?;
-    write(rt, list, 0, 0, 0)?;
-    write(rt, list, 11, 0, 32)?;
-    write(rt, list, 1, 0, 32)?;
-    write(rt, list, 7, 5, 4)?;
-    write(rt, list, 12, usize::MAX, 32)
+    for (count, place, room) in [
+        (12, 0, 27),
+        (12, 0, 26),
+        (12, 2, 29),
+        (12, 2, 28),
+        (12, 2, 32),
+        (6, 0, 13),
+        (6, 0, 12),
+        (0, 4, 4),
+        (0, 5, 4),
+        (6, 5, 4),
+        (0, 0, 0),
+        (11, 0, 32),
+        (1, 0, 32),
+        (7, 5, 4),
+        (12, usize::MAX, 32),
+    ] {
+        write(rt, list, count, place, room)?;
+    }
+    Ok(())
 }
 
 pub fn writes(rt: &HostRuntime) -> io::Result<()> {

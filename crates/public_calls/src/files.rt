@@ -6,7 +6,7 @@ use super::stored::{PLACES, kept, load, unsound};
 use monitor::Store;
 use std::io;
 
-// The two library calls that run the bytes of a drill file.
+// The two library calls that run the bytes of a drill file. An enum and no closure: which call it is is printed, too.
 #[derive(Clone, Copy)]
 enum By {
     File,
@@ -19,21 +19,36 @@ const GOES_ON: By = By::Piece { last: false };
 const ENDS: By = By::Piece { last: true };
 
 impl By {
-    // Runs bytes, with so many answer places.
-    fn run(
-        self,
-        rt: &impl Print,
-        m: Store,
-        name: &str,
-        input: &[u8],
-        count: usize,
-    ) -> io::Result<()>
-        requires { count ≤ 237 }
+    // Such a call on a file, with so many answer places.
+    fn on(self, name: &'static str, count: usize) -> Case
+        requires { count ≤ PLACES }
     {
+        Case {
+            by: self,
+            name,
+            count,
+        }
+    }
+}
+
+// A stored file, and what runs it: one of the two calls, with so many answer places.
+#[derive(Clone, Copy)]
+struct Case {
+    by: By,
+    name: &'static str,
+    count: usize,
+    ghost count_bound: { count ≤ 237 },
+}
+
+impl Case {
+    // Runs these bytes of it.
+    fn run(self, rt: &impl Print, m: Store, input: &[u8]) -> io::Result<()> {
+        let name = self.name;
+        let count = self.count;
         let mut room = [77; PLACES];
         let answers = &mut room[..count];
         let bytes = input.len();
-        let ran = match self {
+        let ran = match self.by {
             By::File => {
                 print!(rt; "run_file {name}, {bytes} bytes, {count} places: ")?;
                 monitor::run_file(m, input, answers)
@@ -49,18 +64,18 @@ impl By {
         places(rt, answers)
     }
 
-    // Runs a stored file.
-    fn stored(self, rt: &HostRuntime, m: Store, name: &str, count: usize) -> io::Result<()>
-        requires { count ≤ 237 }
-    {
-        self.run(rt, m, name, load(rt, name).as_slice(), count)
+    // Runs all of it.
+    fn whole(self, rt: &HostRuntime, m: Store) -> io::Result<()> {
+        self.run(rt, m, load(rt, self.name).as_slice())
     }
 }
 
 // Two calls, cut after each number of bytes: as whole files, and as pieces below. What a cut is run as differs, so a closure would be as long as the loop.
 fn cut_files(rt: &impl Print, input: &[u8]) -> io::Result<()> {
     for cut in 0..=input.len() {
-        By::File.run(rt, Store::fresh(), "case-06", &input[..cut], 12)?;
+        By::File
+            .on("case-06", 12)
+            .run(rt, Store::fresh(), &input[..cut])?;
     }
     Ok(())
 }
@@ -68,60 +83,65 @@ fn cut_files(rt: &impl Print, input: &[u8]) -> io::Result<()> {
 fn cut_pieces(rt: &impl Print, input: &[u8]) -> io::Result<()> {
     for cut in 0..=input.len() {
         let part = &input[..cut];
-        GOES_ON.run(rt, Store::fresh(), "case-06", part, 12)?;
-        ENDS.run(rt, Store::fresh(), "case-06", part, 6)?;
+        GOES_ON.on("case-06", 12).run(rt, Store::fresh(), part)?;
+        ENDS.on("case-06", 6).run(rt, Store::fresh(), part)?;
     }
     Ok(())
 }
 
-fn whole_files(rt: &HostRuntime, m: Store) -> io::Result<()> {
-    By::File.stored(rt, m, "case-00", 27)?;
-    By::File.stored(rt, m, "case-00", 23)?;
-    By::File.stored(rt, m, "case-01", 3)?;
-    By::File.stored(rt, m, "case-01", 0)?;
-    By::File.stored(rt, m, "case-06", 15)?;
-    By::File.stored(rt, m, "case-06", 11)?;
-    By::File.stored(rt, m, "case-35", 9)?;
-    By::File.stored(rt, m, "case-35", 5)?;
-    By::File.stored(rt, m, "case-41", 9)?;
-    By::File.stored(rt, m, "case-43", 9)?;
-    By::File.stored(rt, m, "case-45", 9)?;
-    By::File.stored(rt, m, "case-48", 9)?;
-    By::File.stored(rt, m, "case-48", 5)?;
-    By::File.stored(rt, m, "base", 237)?;
-    By::File.stored(rt, m, "base", 233)
-}
-
 pub fn files(rt: &HostRuntime) -> io::Result<()> {
-    whole_files(rt, Store::fresh())?;
+    for case in [
+        By::File.on("case-00", 27),
+        By::File.on("case-00", 23),
+        By::File.on("case-01", 3),
+        By::File.on("case-01", 0),
+        By::File.on("case-06", 15),
+        By::File.on("case-06", 11),
+        By::File.on("case-35", 9),
+        By::File.on("case-35", 5),
+        By::File.on("case-41", 9),
+        By::File.on("case-43", 9),
+        By::File.on("case-45", 9),
+        By::File.on("case-48", 9),
+        By::File.on("case-48", 5),
+        By::File.on("base", 237),
+        By::File.on("base", 233),
+    ] {
+        case.whole(rt, Store::fresh())?;
+    }
     cut_files(rt, load(rt, "case-06").as_slice())?;
     println!(rt; "last transaction number 60001")?;
-    let m = unsound();
-    By::File.stored(rt, m, "case-00", 27)?;
-    By::File.stored(rt, m, "case-00", 23)?;
-    By::File.stored(rt, m, "case-01", 0)?;
-    By::File.stored(rt, m, "case-43", 9)
-}
-
-fn whole_pieces(rt: &HostRuntime, m: Store) -> io::Result<()> {
-    GOES_ON.stored(rt, m, "base", 0)?;
-    GOES_ON.stored(rt, m, "base", 5)?;
-    GOES_ON.stored(rt, m, "base", 6)?;
-    ENDS.stored(rt, m, "base", 11)?;
-    ENDS.stored(rt, m, "base", 60)?;
-    GOES_ON.stored(rt, m, "case-41", 9)?;
-    GOES_ON.stored(rt, m, "case-43", 9)?;
-    ENDS.stored(rt, m, "case-43", 9)?;
-    ENDS.stored(rt, m, "case-43", 5)?;
-    GOES_ON.stored(rt, m, "case-48", 9)?;
-    GOES_ON.stored(rt, m, "case-48", 5)
+    for case in [
+        By::File.on("case-00", 27),
+        By::File.on("case-00", 23),
+        By::File.on("case-01", 0),
+        By::File.on("case-43", 9),
+    ] {
+        case.whole(rt, unsound())?;
+    }
+    Ok(())
 }
 
 pub fn pieces(rt: &HostRuntime) -> io::Result<()> {
-    whole_pieces(rt, Store::fresh())?;
+    for case in [
+        GOES_ON.on("base", 0),
+        GOES_ON.on("base", 5),
+        GOES_ON.on("base", 6),
+        ENDS.on("base", 11),
+        ENDS.on("base", 60),
+        GOES_ON.on("case-41", 9),
+        GOES_ON.on("case-43", 9),
+        ENDS.on("case-43", 9),
+        ENDS.on("case-43", 5),
+        GOES_ON.on("case-48", 9),
+        GOES_ON.on("case-48", 5),
+    ] {
+        case.whole(rt, Store::fresh())?;
+    }
     cut_pieces(rt, load(rt, "case-06").as_slice())?;
     println!(rt; "last transaction number 60001")?;
-    let m = unsound();
-    GOES_ON.stored(rt, m, "case-00", 27)?;
-    ENDS.stored(rt, m, "case-43", 0)
+    for case in [GOES_ON.on("case-00", 27), ENDS.on("case-43", 0)] {
+        case.whole(rt, unsound())?;
+    }
+    Ok(())
 }

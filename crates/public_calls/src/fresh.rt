@@ -40,12 +40,10 @@ fn list_of(
 pub fn lists(rt: &HostRuntime, base: Store) -> io::Result<()> {
     let numbers = numbers(rt, load(rt, "base").as_slice())?;
     let list = numbers.as_slice();
-    list_of(rt, base, list, 234, 237)?;
-    list_of(rt, base, list, 234, 233)?;
-    list_of(rt, base, list, 233, 237)?;
-    list_of(rt, base, list, 233, 0)?;
-    list_of(rt, base, list, 6, 6)?;
-    list_of(rt, base, list, 0, 0)
+    for (count, room) in [(234, 237), (234, 233), (233, 237), (233, 0), (6, 6), (0, 0)] {
+        list_of(rt, base, list, count, room)?;
+    }
+    Ok(())
 }
 
 fn show_made(rt: &impl Print, name: &str, m: Store) -> io::Result<()> {

@@ -1,5 +1,6 @@
 // Runs the public calls that no other program runs: drill files and pieces of them, turns of the drill program, calls read and written, lists on a
-// fresh monitor, and which records are sound and equal. A line for each case, and the answer places.
+// fresh monitor, and which records are sound and equal. A line for each case, and the answer places. Functions are passed the handle that they print by,
+// as those of std are, and the record that they start from.
 #![tactic(auto)]
 
 mod calls;

@@ -50,12 +50,30 @@ const LINK: [&str; 19] = [
     "filled",
 ];
 
+// Where the words of the parties begin, and those of the links.
+const PARTIES: usize = HEAD.len();
+
+const LINKS: usize = PARTIES + 16 * PARTY.len();
+
 fn show_name(rt: &impl Print, at: usize) -> io::Result<()> {
     match at {
-        0..4 => print!(rt; "{}", HEAD[at]),
-        4..292 => print!(rt; "party {} {}", (at - 4) / 18, PARTY[(at - 4) % 18]),
-        _ => print!(rt; "link at {} {}", (at - 292) / 19, LINK[(at - 292) % 19]),
+        0..PARTIES => print!(rt; "{}", HEAD[at]),
+        PARTIES..LINKS => {
+            let place = at - PARTIES;
+            let field = PARTY[place % PARTY.len()];
+            print!(rt; "party {} {field}", place / PARTY.len())
+        }
+        _ => {
+            let place = at - LINKS;
+            let field = LINK[place % LINK.len()];
+            print!(rt; "link at {} {field}", place / LINK.len())
+        }
     }
+}
+
+// Is this the place of a word that tells what a party may do, the last four of each?
+pub fn tells_rights(at: usize) -> bool {
+    (PARTIES..LINKS).contains(&at) && (at - PARTIES) % PARTY.len() >= PARTY.len() - 4
 }
 
 // By value and lent, both ways round, and the copy beside itself: all must tell the same.
@@ -75,7 +93,7 @@ fn show_copy(rt: &impl Print, base: Store, m: Store) -> io::Result<()> {
 }
 
 fn show_change(rt: &impl Print, base: Store, at: usize, value: u32) -> io::Result<()>
-    requires { at < 900 }
+    requires { at < WORDS }
 {
     let mut m = base;
     m.words[at] = value;
@@ -84,7 +102,7 @@ fn show_change(rt: &impl Print, base: Store, at: usize, value: u32) -> io::Resul
 }
 
 fn show_word(rt: &impl Print, base: Store, at: usize) -> io::Result<()>
-    requires { at < 900 }
+    requires { at < WORDS }
 {
     let word = base.words[at];
     show_name(rt, at)?;

@@ -1,6 +1,7 @@
-// What is written: words for yes and no, answer places.
+// What is written: words for yes and no and for the input's end, answer places.
 use std::io;
 
+// A word for each answer, here and below: a `Display` of a bool's own would need a wrapper for each.
 pub fn yes(is: bool) -> &'static str {
     if is { "yes" } else { "no" }
 }

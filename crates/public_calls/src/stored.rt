@@ -1,4 +1,5 @@
 // Stored drill files, and the records that cases start from.
+use super::records::tells_rights;
 use monitor::Store;
 use std::fs::File;
 use std::io::Read;
@@ -49,11 +50,6 @@ pub fn unsound() -> Store {
 // Did any word of the record change? `damaged` has the like: what both use would be public in `monitor`, with a contract of its own, for two words.
 pub fn kept(before: Store, after: Store) -> &'static str {
     if before == after { "kept" } else { "changed" }
-}
-
-// Is this the place of a word that tells what a party may do, the last four of each?
-fn tells_rights(at: usize) -> bool {
-    (4..292).contains(&at) && (at - 4) % 18 >= 14
 }
 
 // Do all words that tell rights, or all others, hold the value?

@@ -11,7 +11,7 @@ use std::{fs, io};
 
 // The bytes of text, and whether the rest of its buffer is as it was.
 fn show_text(rt: &impl Print, out: &[u8], written: usize) -> io::Result<()> {
-    if let (Some(text), Some(rest)) = (out.get(..written), out.get(written..)) {
+    if let Some((text, rest)) = out.split_at_checked(written) {
         let blank = show::yes(rest.iter().all(|byte| *byte == 0xEE));
         println!(rt; ", past the text kept {blank}")?;
         rt.write_all(text)?;
@@ -37,7 +37,7 @@ impl Case {
         Case { name, places, room }
     }
 
-    // A turn on so many bytes of the input.
+    // A turn on so many bytes of the input, told beside the whole of it, as `list_turn` is lent them.
     fn turn(
         self,
         rt: &impl Print,
@@ -129,6 +129,7 @@ impl Case {
     }
 }
 
+// Each row is a call, where its size is proved to be within the buffer; a row of an array would need a type of its own for that.
 fn single_turns(rt: &HostRuntime, m: Store) -> io::Result<()> {
     Case::new("case-00", 24, 550).once(rt, m, 25, 25, false)?;
     Case::new("case-00", 27, 550).once(rt, m, 28, 25, true)?;

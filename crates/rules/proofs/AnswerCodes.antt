@@ -1,12 +1,9 @@
 -- Laws of the answers' numbers: which are the same, which differ, and the rules' list of the early ones beside the statement's.
 -- Assumes nothing.
-use mathlib.Core.Path.{◌≡◌, refl, ap, subst}
-use mathlib.Core.Bool.{Bool, true, false}
-use lib.IntN.{ℤ, pos, negsuc}
-use borrow.Author.Tests.{eqb-true, eq-eqb}
+use Rattle.std.proofs.Common.{◌≡◌, refl, ap, subst, Bool, true, false, ℤ, pos, negsuc, eqb-true, eq-eqb, rules}
 use Rattle.rules.specs.History.{same_code, unheard}
 use Rattle.rules.specs.Refusals.{is_early}
-use Rattle.rules.proofs.Logic.{not_both, test}
+use Rattle.rules.proofs.Logic.{not_both}
 
 pub same_code_lem : (x y : ℤ) → same_code x y ≡ true → x ≡ y
 same_code_lem (pos m) (pos n) h = ap pos (eqb-true m n h)
@@ -27,7 +24,7 @@ of_code X x y h e = subst X (same_code_lem x y e) h
 
 -- a test tells two codes apart
 pub codes_apart : (f : ℤ → Bool) (x y : ℤ) → f x ≡ true → f y ≡ false → same_code x y ≡ false
-codes_apart f x y h n = test (same_code x y) (λ e. not_both (of_code (λ z. f z ≡ true) x y h e) n) (λ e. e)
+codes_apart f x y h n = search rules
 
 -- what the rules refuse before the clock moves is what the statement does not count
 pub early_unheard : (z : ℤ) → is_early z ≡ unheard z

@@ -1,13 +1,8 @@
 -- A fetch of whichever reply takes the caller's lowest-numbered one as a fetch by its number does.
 -- Assumes nothing.
-use mathlib.Core.Path.{◌≡◌, refl, ap, sym, subst, ◌∙◌}
-use mathlib.Core.List.{List, [], ◌∷◌}
-use mathlib.Core.Bool.{Bool, true, false, not}
-use Prim.Native.Nat.{ℕ, ◌≤◌, ◌<◌}
-use native.Mathlib.Omega.{arith}
-use lib.Dec.{leb}
-use lib.ListN.{length, get_or}
-use borrow.Author.Tests.{ltb-true, lt-ltb}
+use Rattle.std.proofs.Common.{◌≡◌, refl, ap, sym, subst, ◌∙◌, List, [], ◌∷◌, Bool, true, false}
+use Rattle.std.proofs.Common.{not, ℕ, ◌≤◌, ◌<◌, arith, leb, length, get_or, ltb-true, lt-ltb}
+use Rattle.std.proofs.lemmas.Bool.{and_from, not-true}
 use Rattle.rules.specs.Choice.{pick, same}
 use Rattle.rules.specs.Lists.{first_of, any_of}
 use Rattle.rules.specs.Record.{fresh_link, is_returned, live, link_of, own_end}
@@ -21,7 +16,7 @@ use Rattle.rules.specs.declared.Link.{Link}
 use Rattle.rules.specs.declared.Monitor.{Monitor}
 use Rattle.rules.specs.declared.Ruled.{Ruled}
 use Rattle.rules.specs.declared.Stepped.{Stepped}
-use Rattle.rules.proofs.Logic.{by_test, test, not_both, pick_true, pick_false, same_true, and_l, and_r, and_true, not_true}
+use Rattle.rules.proofs.Logic.{by_test, test, not_both, pick_true, pick_false, same_true, and_l, and_r}
 use Rattle.rules.proofs.Fine.{no_link, look, Between, Shape, Frame}
 use Rattle.rules.proofs.Looks.{look_there, look_cases, link_of_look, look_link_of, any_none, any_some, any_one}
 use Rattle.rules.proofs.Changes.{live_length, first_fits, first_look}
@@ -57,7 +52,7 @@ expired_none m p = refl
 
 replied : (p : ℕ) (l : Link) → request_end p l ≡ true → is_returned l ≡ true → replied_end p l ≡ true
 unfolding replied_end
-replied p l o r = and_true _ _ o r
+replied p l o r = and_from _ _ o r
 
 -- an open end of a party none of whose ends is late
 timely : (m : Monitor) (p : ℕ) (l : Link) → expired_end m p l ≡ false → request_end p l ≡ true → not (expired m l.tx) ≡ true
@@ -99,7 +94,7 @@ module _ (m : Monitor) (fr : Frame m) (p : ℕ) where
   unfolding fetch_of fetch_any is_reply
   fetch_takes a = by_test Taking
       (λ _. by_test Taking (λ _. by_test Taking (λ _. by_test Taking (λ n. by_test Taking
-      (λ h _. any_takes (not_true _ n) (ltb-true _ _ h))
+      (λ h _. any_takes (not-true _ n) (ltb-true _ _ h))
       (λ _ e. not_both e refl))
       (λ _ e. not_both e refl))
       (λ _ e. not_both e refl))
@@ -154,7 +149,7 @@ module _ (m : Monitor) (fr : Frame m) (p : ℕ) where
 -- ---- one call
 module _ (m : Monitor) (c : Call) (k : c.kind ≡ 15) where
   fetch_step : (a b : ℕ) → sound m ≡ true → leb c.party 15 ≡ true
-      → step_of m (record { clock = c.clock; party = c.party; kind = c.kind; a = a; b = b; c = c.c })
+      → step_of m (record c { a = a; b = b })
       ≡ answered_to (fetch_of (advanced m c.clock) c.party a b) c.party
   unfolding step_of call_of rule_of pick
   fetch_step a b s p = rw (s, k, p)

@@ -1,11 +1,7 @@
 -- A statement of every kind's rule is one of whatever rule the kind's number chooses.
 -- Assumes nothing.
-use mathlib.Core.Path.{◌≡◌}
-use mathlib.Core.Bool.{true}
-use Prim.Native.Nat.{ℕ, suc, ◌≤◌}
-use native.Mathlib.Omega.{arith}
-use lib.Dec.{eqb, leb}
-use borrow.Author.Tests.{eqb-true, eqb-false, leb-true}
+use Rattle.std.proofs.Common.{◌≡◌, true, ℕ, suc, ◌≤◌, arith, eqb, leb, eqb-true, leb-true}
+use Rattle.std.proofs.lemmas.Bool.{eqb-false}
 use Rattle.rules.specs.Choice.{pick}
 use Rattle.rules.specs.Tx.{open_of, close_of, begin_of, commit_of, rollback_of, info_of, commit_return_of, control_of, timeout_of}
 use Rattle.rules.specs.Services.{advertise_of, unadvertise_of}

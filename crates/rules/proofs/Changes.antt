@@ -1,14 +1,9 @@
 -- Looking a link up after each change of the record: changed, rebuilt, removed, added, replaced; and the frame of the record after it.
 -- Assumes nothing.
-use mathlib.Core.Path.{◌≡◌, refl, sym, ap, subst, ◌∙◌}
-use mathlib.Core.List.{List, [], ◌∷◌, ◌++◌}
-use mathlib.Core.Bool.{Bool, true, false}
-use Prim.Native.Nat.{ℕ, zero, suc, ◌≤◌, ◌<◌}
-use native.Mathlib.Omega.{arith}
-use native.Mathlib.Numerals.{add-one}
-use lib.ListN.{length, get_or, set, drop, length-set, length-append, length-drop, length-replicate}
-use lib.Seq.{length-take-le, take-append_seam, take-set-lt, take-suc-set, set-get_or}
-use borrow.Author.Tests.{lt-ltb}
+use Rattle.std.proofs.Common.{◌≡◌, refl, sym, ap, subst, ◌∙◌, List, [], ◌∷◌, ◌++◌, Bool, true, false, ℕ, zero, suc, ◌≤◌, ◌<◌, arith, add-one}
+use Rattle.std.proofs.Common.{length, get_or, set, drop, length-set, length-append, length-drop, take-suc-set, lt-ltb, rules}
+use Rattle.std.proofs.lemmas.List.{length-replicate, set-get_or}
+use Rattle.std.proofs.Math.Seq.{take-append_seam, take-set-lt}
 use Rattle.rules.specs.Choice.{pick, same}
 use Rattle.rules.specs.Lists.{first_of, collect}
 use Rattle.rules.specs.Record.{fresh_link, blanks, numbered, live, place_of, with_parties, rebuilt, replaced, changed, gone_of, removed, added}
@@ -20,18 +15,11 @@ use Rattle.rules.proofs.Fine.{no_link, look, Between, Frame}
 use Rattle.rules.proofs.Looks.{between_low, look_below, look_cases, look_next}
 
 pub live_length : (m : Monitor) → Frame m → length (live m) ≡ m.count
-live_length m fr = length-take-le m.count m.links (let a = fr.shape.links32 in let b = fr.count32 in omega arith)
+live_length m fr = search rules
 
 -- ---- other parties, the same links (`live` computes to that of m)
 pub parties_frame : (m : Monitor) → Frame m → (ps : List Party) → length ps ≡ 16 → Frame (with_parties m ps)
-parties_frame m fr ps e =
-    record {
-      shape = record { parties16 = e; links32 = fr.shape.links32 };
-      count32 = fr.count32;
-      last_link = fr.last_link;
-      last_tx = fr.last_tx;
-      rising = fr.rising;
-    }
+parties_frame m fr ps e = search rules
 
 -- ---- in a list: the first place that passes a test, and a place at which l stands instead
 pub place_fits : (f : Link → Bool) (ls : List Link) → first_of f ls < length ls → f (get_or ls (first_of f ls) fresh_link) ≡ true
@@ -114,7 +102,7 @@ module _ (m : Monitor) (fr : Frame m) (f : Link → Bool) (h : first_of f (live 
       count32 = fr.count32;
       last_link = fr.last_link;
       last_tx = fr.last_tx;
-      rising = subst (λ (x : List Link). Between 0 x m.lastlink) (sym replaced_live)
+      rising = rw replaced_live
           (set_between l 0 m.lastlink (first_of f (live m)) (live m) fr.rising in_live e);
     }
 
@@ -182,7 +170,7 @@ rebuilt_frame m fr ps e ls h b = record {
   count32 = h;
   last_link = fr.last_link;
   last_tx = fr.last_tx;
-  rising = subst (λ (x : List Link). Between 0 x m.lastlink) (sym (rebuilt_live m ls)) b;
+  rising = rw (rebuilt_live m ls) b;
 }
 
 -- ---- what f leaves of each link: nothing, or one link with its number
@@ -322,6 +310,6 @@ module _ (m : Monitor) (fr : Frame m) (room : m.count < 32) (l : Link) (e : l.nu
     count32 = omega arith;
     last_link = omega arith;
     last_tx = fr.last_tx;
-    rising = subst (λ (n : ℕ). Between 0 (live (added m l)) n) (sym (add-one m.lastlink))
-        (subst (λ (x : List Link). Between 0 x (suc m.lastlink)) (sym added_live) (snoc_between 0 m.lastlink l e (live m) fr.rising));
+    rising = rw (add-one m.lastlink)
+        (rw added_live (snoc_between 0 m.lastlink l e (live m) fr.rising));
   }

@@ -1,11 +1,7 @@
 -- A sound record, taken apart: what soundness and the declared lengths say of its lists, link by link and party by party,
 -- and what stands for a link that is not there.
 -- Assumes nothing.
-use mathlib.Core.Path.{◌≡◌}
-use mathlib.Core.List.{List, [], ◌∷◌}
-use mathlib.Core.Bool.{true}
-use Prim.Native.Nat.{ℕ, ◌≤◌, ◌<◌}
-use lib.ListN.{length}
+use Rattle.std.proofs.Common.{◌≡◌, List, [], ◌∷◌, true, ℕ, ◌≤◌, ◌<◌, length}
 use Rattle.rules.specs.Choice.{pick, same}
 use Rattle.rules.specs.Record.{fresh_link, is_working, party, live, returned}
 use Rattle.rules.specs.Sound.{link_good, choices_good}

@@ -1,14 +1,7 @@
 -- What every call keeps: a sound record sound, and the clock and the last numbers from falling.
 -- So question 19 is never answered from a fresh monitor.
 -- Assumes nothing.
-use mathlib.Core.Path.{◌≡◌, refl, sym, ◌∙◌}
-use mathlib.Core.Bool.{true, false, not}
-use mathlib.Core.List.{List, [], ◌∷◌, ◌++◌}
-use Prim.Native.Nat.{ℕ, zero, suc, ◌≤◌, ◌<◌}
-use native.Mathlib.Omega.{arith}
-use lib.IntN.{ℤ}
-use lib.ListN.{drop}
-use borrow.Author.Tests.{leb-true, ltb-true}
+use Rattle.std.proofs.Common.{◌≡◌, refl, sym, ◌∙◌, true, false, not, List, [], ◌∷◌, ◌++◌, ℕ, zero, suc, ◌≤◌, ◌<◌, arith, ℤ, drop, leb-true, ltb-true}
 use Rattle.rules.specs.Choice.{pick}
 use Rattle.rules.specs.Codes.{unsound}
 use Rattle.rules.specs.Record.{fresh_monitor}
@@ -200,7 +193,7 @@ module _ (m : Monitor) (sh : Shape m) (c : Call) where
   GrownTo s = Grown m s.monitor
 
   unmoved : Grown m m
-  unmoved = record { clock = omega arith; lastlink = omega arith; lasttx = omega arith }
+  unmoved = omega arith
 
   call_grows : sound m ≡ true → GrownTo (call_of m c)
   unfolding call_of answered_to turned_down GrownTo

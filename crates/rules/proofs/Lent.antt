@@ -1,14 +1,7 @@
 -- A lent list, call by call: each answer stands in its place and is that of its call, a refused one too.
 -- Assumes nothing.
-use mathlib.Core.Path.{◌≡◌, refl, sym, ap, subst, ◌∙◌}
-use mathlib.Core.Bool.{true}
-use mathlib.Core.List.{List, ◌++◌}
-use Prim.Native.Nat.{ℕ, zero, suc, ◌+◌, ◌*◌, ◌<◌}
-use native.Mathlib.Nat.{le_of_suc-le-suc, not-suc-le-zero}
-use native.Mathlib.Omega.{arith}
-use lib.IntN.{ℤ}
-use lib.ListN.{drop}
-use lib.Seq.{drop-drop}
+use Rattle.std.proofs.Common.{◌≡◌, refl, sym, ap, subst, ◌∙◌, true, List, ◌++◌, ℕ, zero, suc, ◌+◌}
+use Rattle.std.proofs.Common.{◌*◌, ◌<◌, le_of_suc-le-suc, not-suc-le-zero, arith, ℤ, drop, drop-drop}
 use Rattle.rules.specs.Codes.{list_run, too_little_room, cut_short, unsound}
 use Rattle.rules.specs.Step.{call_of}
 use Rattle.rules.specs.Run.{call_at, places_of, ran_of, answers_of, calls_in, Listed, listed, list_of}

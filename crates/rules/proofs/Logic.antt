@@ -1,11 +1,12 @@
 -- Laws of choice, of the tests, of the connectives and of numbers that are not 0.
 -- Assumes nothing.
-use mathlib.Core.Path.{◌≡◌, refl, sym, ap, ◌∙◌}
-use mathlib.Core.Bool.{Bool, true, false, cond, not, ◌&&◌, ◌||◌, beq}
-use Prim.Native.Nat.{ℕ, suc, ◌<◌}
-use native.Mathlib.Omega.{arith}
-use borrow.Author.Tests.{eqb-true, eqb-false, eq-eqb, ne_eqb}
+use Rattle.std.proofs.Common.{◌≡◌, refl, sym, ap, ◌∙◌, Bool, true, false, cond, not, ◌&&◌, ◌||◌, ℕ, suc, ◌<◌, arith, eqb-true, eq-eqb, ne_eqb}
+use Rattle.std.proofs.Math.Bool.{beq}
+use Rattle.std.proofs.lemmas.Bool.{eqb-false}
 use Rattle.rules.specs.Choice.{pick, same}
+-- laws of the library, passed on to the crates above
+pub use Rattle.std.proofs.lemmas.Bool.{and_from as and_true}
+pub use Rattle.std.proofs.Math.Bool.{and_assoc, and-false as and_false}
 
 pub pick_true : {A : Type 0} (b : Bool) (x y : A) → b ≡ true → pick b x y ≡ x
 unfolding pick
@@ -60,14 +61,11 @@ cond_not true b = refl
 cond_not false b = refl
 
 pub not_both : {X : Type 0} {b : Bool} → b ≡ true → b ≡ false → X
-not_both {b} p q = absurd (let z : ◌≡◌ {A = ℕ} 0 1 = cc in omega arith)
+not_both p q = cc
 
 pub same_refl : (n : ℕ) → same n n ≡ true
 unfolding same
 same_refl n = eq-eqb n n refl
-
-pub same_eq : (m n : ℕ) → m ≡ n → same m n ≡ true
-same_eq m n e = rw e (same_refl n)
 
 pub same_true : (m n : ℕ) → same m n ≡ true → m ≡ n
 unfolding same
@@ -93,28 +91,9 @@ pub and_r : (a b : Bool) → a && b ≡ true → b ≡ true
 and_r true b e = e
 and_r false b e = cc
 
-pub and_true : (a b : Bool) → a ≡ true → b ≡ true → a && b ≡ true
-and_true a b p q = rw (p, q)
-
-pub and_false : (b : Bool) → b && false ≡ false
-and_false true = refl
-and_false false = refl
-
 pub not_or : (a b : Bool) → not (a || b) ≡ not a && not b
 not_or true b = refl
 not_or false b = refl
-
-pub and_yes : (b : Bool) → b && true ≡ b
-and_yes true = refl
-and_yes false = refl
-
-pub and_assoc : (a b c : Bool) → (a && b) && c ≡ a && (b && c)
-and_assoc true b c = refl
-and_assoc false b c = refl
-
-pub and_comm : (a b : Bool) → a && b ≡ b && a
-and_comm a true = and_yes a
-and_comm a false = and_false a
 
 pub or_l : (a b : Bool) → a || b ≡ false → a ≡ false
 or_l true b e = e
@@ -123,10 +102,6 @@ or_l false b e = refl
 pub or_r : (a b : Bool) → a || b ≡ false → b ≡ false
 or_r true b e = cc
 or_r false b e = e
-
-pub or_true : (b : Bool) → b || true ≡ true
-or_true true = refl
-or_true false = refl
 
 pub pick_or : (a b : Bool) → pick a true b ≡ a || b
 unfolding pick
@@ -138,21 +113,9 @@ unfolding pick
 pick_and true b = refl
 pick_and false b = refl
 
-pub or_false : (b : Bool) → b || false ≡ b
-or_false true = refl
-or_false false = refl
-
 pub or_cases : {X : Type 0} (a b : Bool) → a || b ≡ true → (a ≡ true → X) → (b ≡ true → X) → X
 or_cases true b h f g = f refl
 or_cases false b h f g = g h
-
-pub not_true : (a : Bool) → not a ≡ true → a ≡ false
-not_true true e = sym e
-not_true false e = refl
-
-pub not_false : (a : Bool) → not a ≡ false → a ≡ true
-not_false true e = refl
-not_false false e = sym e
 
 pub beq_refl : (a b : Bool) → a ≡ b → beq a b ≡ true
 beq_refl true true e = refl

@@ -1,13 +1,6 @@
 -- Looking a link up by its number: in a list with rising numbers, in the rules' own way, and under a test on the whole list.
 -- Assumes nothing.
-use mathlib.Core.Path.{◌≡◌, refl, ap}
-use mathlib.Core.List.{List, [], ◌∷◌}
-use mathlib.Core.Bool.{Bool, true, false}
-use Prim.Native.Nat.{ℕ, suc, ◌≤◌, ◌<◌}
-use native.Mathlib.Omega.{arith}
-use lib.Dec.{ltb}
-use lib.ListN.{get_or}
-use borrow.Author.Tests.{ltb-true, ltb-false}
+use Rattle.std.proofs.Common.{◌≡◌, refl, ap, List, [], ◌∷◌, Bool, true, false, ℕ, suc, ◌≤◌, ◌<◌, arith, ltb, get_or, ltb-true, ltb-false}
 use Rattle.rules.specs.Choice.{pick, same}
 use Rattle.rules.specs.Lists.{first_of, any_of}
 use Rattle.rules.specs.Record.{fresh_link, is_working, numbered, party, live, link_of}

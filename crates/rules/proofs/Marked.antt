@@ -2,14 +2,7 @@
 -- One test is computed over the whole table, and the law of tables turns it into the facts of each entry. The other tables
 -- write their calls in the words that stand here.
 -- Assumes nothing.
-use mathlib.Core.Path.{◌≡◌, refl}
-use mathlib.Core.Bool.{Bool, true, ◌&&◌}
-use mathlib.Core.List.{List, [], ◌∷◌, ◌++◌}
-use Prim.Native.Nat.{ℕ, ◌-◌, ◌<◌}
-use lib.Dec.{eqb}
-use lib.IntN.{ℤ, pos, negsuc}
-use lib.ListN.{length, get_or, replicate}
-use borrow.Author.Tests.{eqb-true}
+use Rattle.std.proofs.Common.{◌≡◌, refl, Bool, true, ◌&&◌, List, [], ◌∷◌, ◌++◌, ℕ, ◌-◌, ◌<◌, eqb, ℤ, pos, negsuc, length, get_or, replicate, rules}
 use Rattle.rules.specs.Choice.{pick, same}
 use Rattle.rules.specs.Codes.{no_begin}
 use Rattle.rules.specs.Lists.{first_of, any_of, collect}
@@ -26,8 +19,6 @@ use Rattle.rules.specs.Sound.{reports_good, links_good, works_for, party_good, p
 use Rattle.rules.specs.Step.{rule_of, later_of, answered_to, turned_down, call_of}
 use Rattle.rules.specs.Run.{call_at, places_of, ran_of, answers_of, Listed, list_of}
 use Rattle.rules.specs.History.{same_code}
-use Rattle.rules.proofs.Logic.{and_l, and_r}
-use Rattle.rules.proofs.AnswerCodes.{same_code_lem}
 use Rattle.rules.proofs.Tables.{every, entry}
 
 -- Calls as numbers, six to each; the code of the last one's answer; the record's clock afterwards.
@@ -135,13 +126,7 @@ right e = same_code (drilled e).code (pos 0) && (same_code (last_code e) e.code 
 -- ---- what it shows
 pub holds_right : (e : Example) → right e ≡ true → Holds e
 unfolding right
-holds_right e h =
-    let later = and_r (same_code (drilled e).code (pos 0)) _ h in
-    record {
-      runs = same_code_lem _ _ (and_l _ _ h);
-      answers = same_code_lem _ _ (and_l _ _ later);
-      leaves = eqb-true _ _ (and_r (same_code (last_code e) e.code) _ later);
-    }
+holds_right e h = search rules
 
 pub marked_holds : (k : ℕ) → k < length marked → Holds (get_or marked k fresh_begin)
 unfolding every right pick same no_begin first_of any_of collect blanks numbered owns own_end link_of changed gone_of removed served_tx tx_of ended expired

@@ -1,14 +1,9 @@
 -- Looking a party up after each change of the parties, the owner of a transaction, and the marks of those that can only be rolled back.
 -- Assumes nothing.
-use mathlib.Core.Path.{◌≡◌, refl, sym, ap, ◌∙◌}
-use mathlib.Core.List.{List, [], ◌∷◌}
-use mathlib.Core.Bool.{true, false}
-use Prim.Native.Nat.{ℕ, zero, suc, ◌<◌}
-use native.Mathlib.Omega.{arith}
-use lib.Dec.{eqb, leb, ltb}
-use lib.ListN.{length, get_or, set, length-set, get_or-eq_default}
-use lib.Seq.{get_or-set_same, get_or-set_other}
-use borrow.Author.Tests.{eqb-true, eqb-false, ltb-true, ltb-false, ne_eqb}
+use Rattle.std.proofs.Common.{◌≡◌, refl, sym, ap, ◌∙◌, List, [], ◌∷◌, true, false, ℕ, zero, suc, ◌<◌, arith, eqb, ltb, length}
+use Rattle.std.proofs.Common.{get_or, set, length-set, get_or-set_same, get_or-set_other, eqb-true, ltb-true, ltb-false, ne_eqb, rules}
+use Rattle.std.proofs.Math.ListN.{get_or-eq_default}
+use Rattle.std.proofs.lemmas.Bool.{eqb-false, not-true, not-false}
 use Rattle.rules.specs.Choice.{pick, same}
 use Rattle.rules.specs.Lists.{first_of, any_of}
 use Rattle.rules.specs.Record.{no_reports, fresh_party, is_rollback_only, owns, own_end, party, rollback_only, owning_none, with_party}
@@ -19,22 +14,21 @@ use Rattle.rules.specs.Sound.{reports_good, choices_good}
 use Rattle.rules.specs.declared.Link.{Link}
 use Rattle.rules.specs.declared.Party.{Party}
 use Rattle.rules.specs.declared.Monitor.{Monitor}
-use Rattle.rules.proofs.Logic.{Nz, pick_true, pick_false, and_l, not_true, not_false, test, by_test}
-use Rattle.rules.proofs.Logic.{not_both, same_refl, same_true, same_false, same_ne, and_r}
+use Rattle.rules.proofs.Logic.{Nz, pick_true, pick_false, and_l, test, by_test}
+use Rattle.rules.proofs.Logic.{not_both, same_refl, same_true, same_false, same_ne}
 use Rattle.rules.proofs.Fine.{no_link, look, Between, Shape, Frame}
 use Rattle.rules.proofs.Looks.{look_below}
-use Rattle.rules.proofs.Changes.{parties_frame}
 
 -- ---- one party becomes x
 module _ (m : Monitor) (sh : Shape m) (p : ℕ) (h : p < 16) (x : Party) where
   pub party_same : party (with_party m p x) p ≡ x
-  party_same = get_or-set_same m.parties p x fresh_party (let a = sh.parties16 in omega arith)
+  party_same = search rules
 
   pub party_other : (q : ℕ) → same q p ≡ false → party (with_party m p x) q ≡ party m q
   party_other q n = get_or-set_other m.parties p q x fresh_party (same_false q p n)
 
   pub party_frame : Frame m → Frame (with_party m p x)
-  party_frame fr = parties_frame m fr (set m.parties p x) (length-set m.parties p x ∙ sh.parties16)
+  party_frame fr = search rules
 
 -- a party that owns a transaction is one of the list
 pub owner_in : (ps : List Party) (q : ℕ) → Nz (get_or ps q fresh_party).owned → q < length ps
@@ -63,7 +57,7 @@ module _ (m : Monitor) where
   -- a transaction that is not ended has an owner
   pub live_owner_lem : (t : ℕ) → Nz t → ended m t ≡ false → (q : ℕ) × ((party m q).owned ≡ t)
   unfolding ended same
-  live_owner_lem t n h = owner_some t m.parties (not_false _ (rw n at h))
+  live_owner_lem t n h = owner_some t m.parties (not-false _ (rw n at h))
 
   -- no transaction of its own, where it has no transaction at all
   pub owned_none : (p : ℕ) → tx_of m p ≡ 0 → (party m p).owned ≡ 0
@@ -72,7 +66,7 @@ module _ (m : Monitor) where
 
   pub is_owner_owns : (p : ℕ) → is_owner m p ≡ true → Nz (party m p).owned
   unfolding is_owner same
-  is_owner_owns p h = not_true _ (and_l _ _ h)
+  is_owner_owns p h = not-true _ (and_l _ _ h)
 
   pub is_owner_only : (p : ℕ) → Nz (party m p).owned → ((r : ℕ) → (party m r).owned ≡ (party m p).owned → r ≡ p) → is_owner m p ≡ true
   unfolding is_owner
@@ -145,16 +139,15 @@ marks_grow x y (plain e) r = rw e r
 marks_grow x y (marked e) r = rw e
 
 pub reports_good_lem : (x : Party) → choices_good x ≡ true → reports_good x.reports ≡ true
-reports_good_lem x g = and_r (leb x.rollbackonly 1) _ (and_r (leb x.control 1) _ (and_r (leb x.opened 1) _ g))
+reports_good_lem x g = search rules
 
 -- with the mark the choices are as good, and without a transaction
 pub mark_good : (x : Party) → choices_good x ≡ true → choices_good (rollback_only x) ≡ true
-mark_good x g = let h = and_r (leb x.opened 1) _ g in
-    rw (and_l (leb x.opened 1) _ g, and_l (leb x.control 1) _ h) (reports_good_lem x g)
+mark_good x g = search rules
 
 pub none_good : (x : Party) → choices_good x ≡ true → choices_good (owning_none x) ≡ true
 unfolding reports_good any_of pick
-none_good x g = let h = and_r (leb x.opened 1) _ g in rw (and_l (leb x.opened 1) _ g, and_l (leb x.control 1) _ h)
+none_good x g = search rules
 
 pub fresh_choices : choices_good fresh_party ≡ true
 unfolding reports_good any_of pick

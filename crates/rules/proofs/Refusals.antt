@@ -1,14 +1,10 @@
 -- A refused call changes nothing but the clock and tells nothing but its number, and 32, 36 and 37 come of their own kinds alone:
 -- of every record, sound or not.
 -- Assumes nothing.
-use mathlib.Core.Path.{◌≡◌, refl, sym, ap, ◌∙◌}
-use mathlib.Core.Bool.{Bool, true, false, not, ◌&&◌, ◌||◌}
-use mathlib.Core.List.{List}
-use Prim.Native.Nat.{ℕ}
-use native.Mathlib.Omega.{arith}
-use borrow.Author.Tests.{eqb-true, ne_eqb, leb-true, le-leb}
-use lib.Dec.{eqb, leb}
-use lib.IntN.{ℤ, pos, negsuc}
+use Rattle.std.proofs.Common.{◌≡◌, refl, sym, ap, ◌∙◌, Bool, true, false, not, ◌&&◌, ◌||◌, List, ℕ}
+use Rattle.std.proofs.Common.{ne_eqb, eqb, leb, ℤ, pos, negsuc, rules}
+use Rattle.std.proofs.Math.Bool.{or-true}
+use Rattle.std.proofs.lemmas.Bool.{not-true}
 use Rattle.rules.specs.Choice.{pick}
 use Rattle.rules.specs.Codes.{tx_ok, tx_protocol_error, tx_error, tx_einval, no_begin, unsound, unknown_kind, unknown_party}
 use Rattle.rules.specs.Codes.{bad_argument, not_allowed_now, no_such_end, not_offered, no_room_left, in_transaction}
@@ -30,7 +26,7 @@ use Rattle.rules.specs.declared.Monitor.{Monitor}
 use Rattle.rules.specs.declared.Ruled.{Ruled}
 use Rattle.rules.specs.declared.Stepped.{Stepped}
 use Rattle.rules.proofs.Votes.{every_code, commit_code_test}
-use Rattle.rules.proofs.Logic.{by_test, not_both, pick_true, pick_false, and_l, and_r, not_true, or_l, or_r, or_true}
+use Rattle.rules.proofs.Logic.{by_test, not_both, pick_true, pick_false, and_l, and_r}
 use Rattle.rules.proofs.ByKind.{OfEachKind, by_kind}
 
 -- the code of a call that was carried out: no refusal, and past question 21
@@ -222,11 +218,11 @@ module _ (m : Monitor) (p : ℕ) where
 
 -- ---- past question 21
 carried_neither : (z : ℤ) → is_carried z ≡ true → (is_refusal z ≡ false) × (is_early z ≡ false)
-carried_neither z f = let n = not_true _ (and_r (is_outcome z) _ f) in (or_l _ _ n, or_r (is_refusal z) _ n)
+carried_neither z f = search rules
 
 decided_past : {k : ℕ} {m : Monitor} {r : Ruled} → Decided k m r → is_early r.code ≡ false
 decided_past {k} {m} {r} (does f) = (carried_neither r.code f).1
-decided_past {k} {m} {r} (refuses f e) = not_true _ (and_r (is_refusal r.code) _ (and_l _ _ f))
+decided_past {k} {m} {r} (refuses f e) = not-true _ (and_r (is_refusal r.code) _ (and_l _ _ f))
 
 rule_decided : (m : Monitor) (p k a b c : ℕ) → is_kind k ≡ true → Decided k m (rule_of m p k a b c)
 rule_decided m p k a b c h = by_kind (Decided k m) m p k a b c h (each_decided m p a b c k)
@@ -255,7 +251,7 @@ carried_any k (pos n) h = rw (differs 32 refl, differs 36 refl, differs 37 refl)
 told_lawful : (m : Monitor) (c : Call) (r : Ruled) → Decided c.kind (advanced m c.clock) r → Lawful m c (answered_to r c.party)
 unfolding answered_to tx_of served_tx link_of
 told_lawful m c r (does f) = record {
-  known = rw (and_l (is_outcome r.code) _ f, or_true);
+  known = rw (and_l (is_outcome r.code) _ f, or-true);
   its_kind = carried_any c.kind r.code (carried_neither r.code f).0;
   refused = λ y. not_both y (carried_neither r.code f).0;
 }
@@ -317,11 +313,7 @@ code_known m c = (step_lawful m c).known
 
 nothing_of : (k : ℕ) (z : ℤ) → can_answer k z ≡ true → NothingOf k z
 unfolding can_answer
-nothing_of k z h = record {
-  taking = λ e. eqb-true k 14 (and_l _ _ (rw e at h));
-  fetching_or_receiving = λ e. and_l _ _ (rw e at h);
-  sending = λ e. eqb-true k 17 (rw e at h);
-}
+nothing_of k z h = search rules
 
 -- 32 is answered by kind 14 alone, 36 by kinds 15 and 18, 37 by kind 17: of every record and call
 pub nothing_by_kind : (m : Monitor) (c : Call) → NothingOf c.kind (step_of m c).answer.code
@@ -334,7 +326,4 @@ call_nothing_by_kind m c = nothing_of _ _ (call_lawful m c).its_kind
 -- document 02's numbers for refusals
 pub later_refusals : (n : ℕ) → leb 33 n ≡ true → leb n 39 ≡ true → is_refusal (pos n) ≡ true
 unfolding is_refusal
-later_refusals n h k =
-    ap (λ (b : Bool). (leb 16 n && leb n 28) || (b && leb n 39)) (le-leb 32 n (let l = leb-true 33 n h in omega arith))
-    ∙ ap (λ (b : Bool). (leb 16 n && leb n 28) || b) k
-    ∙ or_true (leb 16 n && leb n 28)
+later_refusals n h k = search rules

@@ -1,15 +1,8 @@
 -- Laws of the rights: who advertises, requests or connects had the right, and who lacks it is told so; only party 0 changes one,
 -- and nothing else with it; a fall keeps them.
 -- Assumes nothing.
-use mathlib.Core.Path.{◌≡◌, refl, sym, ◌∙◌}
-use mathlib.Core.Bool.{Bool, true, false}
-use Prim.Native.Nat.{ℕ, ◌<◌}
-use native.Mathlib.Omega.{arith}
-use lib.Dec.{eqb, ltb, leb}
-use lib.IntN.{ℤ}
-use lib.ListN.{length, set, length-set}
-use lib.Seq.{get_or-set_same}
-use borrow.Author.Tests.{eqb-true, leb-true, le-leb}
+use Rattle.std.proofs.Common.{◌≡◌, refl, sym, ◌∙◌, Bool, true, false, ℕ, ◌<◌, arith, eqb, ltb, leb, ℤ}
+use Rattle.std.proofs.Common.{length, set, length-set, get_or-set_same, eqb-true, leb-true, le-leb, rules}
 use Rattle.rules.specs.Choice.{pick}
 use Rattle.rules.specs.Codes.{tp_accepted, bad_argument, not_permitted, unsound, unknown_kind, unknown_party}
 use Rattle.rules.specs.Record.{fresh_party, party, with_rights, with_clock, with_party, ask}
@@ -117,10 +110,7 @@ module _ (m : Monitor) (p a : ℕ) where
         not_both h (rw (n10, n12, n13))
 
 needs_known : (k : ℕ) → needs_right k ≡ true → is_kind k ≡ true
-needs_known k h = test (eqb k 10) (λ y. let i = eqb-true k 10 y in rw i) λ n10.
-    test (eqb k 12) (λ y. let i = eqb-true k 12 y in rw i) λ n12.
-    test (eqb k 13) (λ y. let i = eqb-true k 13 y in rw i) λ n13.
-    not_both h (rw (n10, n12, n13))
+needs_known k h = search rules
 
 -- without the right such a call is answered 35, whatever else stands against it, but for 22: of a sound record and a party of 0 to 15
 pub lacking_not_permitted : (m : Monitor) (c : Call) → sound m ≡ true → c.party < 16 → needs_right c.kind ≡ true
@@ -139,7 +129,7 @@ lacking_not_permitted m c s p k lacking = by_test Lacking
 
 -- ---- what kind 23 changes
 only_clock : (m : Monitor) (t : ℕ) → OnlyRights m (with_clock m t)
-only_clock m t = record { lastlink' = refl; lasttx' = refl; links' = refl; count' = refl; parties' = λ _. refl }
+only_clock m t = search rules
 
 granted_only : (x : Party) (a s : ℕ) → granted x a s ≡ with_rights x (granted x a s).mayrequest (granted x a s).mayadvertise
 unfolding granted

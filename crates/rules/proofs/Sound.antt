@@ -1,13 +1,8 @@
 -- A record is sound just when it is fine, and a call keeps it fine.
 -- Assumes nothing.
-use mathlib.Core.Path.{◌≡◌, refl, sym, ap, subst, ◌∙◌}
-use mathlib.Core.List.{List, [], ◌∷◌}
-use mathlib.Core.Bool.{Bool, true, false, ◌&&◌}
-use Prim.Native.Nat.{ℕ, zero, suc, ◌+◌, ◌<◌}
-use native.Mathlib.Omega.{arith}
-use lib.Dec.{eqb, ltb, leb}
-use lib.ListN.{length, get_or}
-use borrow.Author.Tests.{ltb-true, leb-true, lt-ltb, le-leb}
+use Rattle.std.proofs.Common.{◌≡◌, refl, sym, ap, subst, ◌∙◌, List, [], ◌∷◌, Bool, true, false, ◌&&◌, ℕ, zero, suc}
+use Rattle.std.proofs.Common.{◌+◌, ◌<◌, arith, eqb, ltb, leb, length, get_or, ltb-true, leb-true, lt-ltb, le-leb, rules}
+use Rattle.std.proofs.lemmas.Bool.{and_from}
 use Rattle.rules.specs.Choice.{pick, same}
 use Rattle.rules.specs.Record.{fresh_party, fresh_link, fresh_monitor, is_working, is_returned, is_ending, party, live, place_of, link_of, working, with_clock}
 use Rattle.rules.specs.Lists.{any_of}
@@ -17,7 +12,7 @@ use Rattle.rules.specs.declared.Link.{Link}
 use Rattle.rules.specs.declared.Party.{Party}
 use Rattle.rules.specs.declared.Monitor.{Monitor}
 use Rattle.rules.specs.declared.Ruled.{Ruled}
-use Rattle.rules.proofs.Logic.{Nz, pick_true, pick_false, test, by_test, not_both, same_refl, same_true, same_ne, and_l, and_r, and_true, by_number}
+use Rattle.rules.proofs.Logic.{Nz, pick_true, pick_false, test, by_test, not_both, same_refl, same_true, same_ne, and_l, and_r, by_number}
 use Rattle.rules.proofs.Fine.{no_link, look, Between, Shape, Fine}
 use Rattle.rules.proofs.Parties.{fresh_choices}
 use Rattle.rules.proofs.Looks.{look_below, look_next, link_of_look, look_link_of}
@@ -65,11 +60,11 @@ good_links : (last prev : ℕ) (ls : List Link) → Between prev ls last → ((d
 unfolding links_good look
 good_links last prev [] h f = le-leb prev last h
 good_links last prev (l ∷ ls) h f =
-    let g : link_good l ≡ true = subst (λ (x : Link). link_good x ≡ true) (pick_true _ l (look l.number ls) (same_refl l.number)) (f l.number) in
-    from_both _ _ (and_true _ _ (lt-ltb prev l.number h.0) g)
+    let g : link_good l ≡ true = rw (pick_true _ l (look l.number ls) (same_refl l.number)) at (f l.number) in
+    from_both _ _ (and_from _ _ (lt-ltb prev l.number h.0) g)
     (good_links last l.number ls h.1 (λ d. test (same l.number d)
-    (λ q. let r = same_true _ _ q in subst (λ (x : Link). link_good x ≡ true) (sym (look_below l.number last d ls h.1 (omega arith))) no_link_good)
-    (λ q. subst (λ (x : Link). link_good x ≡ true) (pick_false _ l (look d ls) q) (f d))))
+    (λ q. let r = same_true _ _ q in rw (look_below l.number last d ls h.1 (omega arith)) no_link_good)
+    (λ q. rw (pick_false _ l (look d ls) q) at (f d))))
 
 -- ---- the parties
 module _ (m : Monitor) where
@@ -85,7 +80,7 @@ module _ (m : Monitor) where
 
   good_party : (p : ℕ) (q : Party) → choices_good q ≡ true → (Nz q.served → works_for p (link_of m q.served) ≡ true) → party_good m p q ≡ true
   unfolding party_good same
-  good_party p q h f = by_test (λ (x : Bool). x ≡ true) (λ _. h) (λ e. and_true (choices_good q) _ h (f e))
+  good_party p q h f = by_test (λ (x : Bool). x ≡ true) (λ _. h) (λ e. and_from (choices_good q) _ h (f e))
 
   parties_good_lem : (p i k : ℕ) (qs : List Party) → k ≡ p + i → parties_good m p qs ≡ true → party_good m k (get_or qs i fresh_party) ≡ true
   unfolding parties_good
@@ -101,11 +96,11 @@ module _ (m : Monitor) where
   -- the rules' look-up and ours find the same working link
   works_look : (p d : ℕ) → works_for p (link_of m d) ≡ true → works_for p (look d (live m)) ≡ true
   unfolding works_for
-  works_look p d h = subst (λ (x : Link). is_working x && same x.server p ≡ true) (link_of_look m (λ l. is_working l) refl d (and_l _ _ h)) h
+  works_look p d h = rw (link_of_look m (λ l. is_working l) refl d (and_l _ _ h)) at h
 
   look_works : (p d : ℕ) → works_for p (look d (live m)) ≡ true → works_for p (link_of m d) ≡ true
   unfolding works_for no_link
-  look_works p d h = subst (λ (x : Link). is_working x && same x.server p ≡ true) (sym (look_link_of m (λ l. is_working l) refl d (and_l _ _ h))) h
+  look_works p d h = rw (look_link_of m (λ l. is_working l) refl d (and_l _ _ h)) h
 
 -- ---- the lists of a sound record
 sound_lists : (m : Monitor) → sound m ≡ true → links_good m.lastlink 0 (live m) && parties_good m 0 m.parties ≡ true
@@ -155,31 +150,19 @@ pub fine_sound : (m : Monitor) → Fine m → sound m ≡ true
 unfolding sound works_for
 fine_sound m fi =
     from_both _ _ (le-leb m.count 32 fi.frame.count32)
-    (and_true _ _ (le-leb m.lastlink 60000 fi.frame.last_link)
-    (and_true _ _ (le-leb m.lasttx 60000 fi.frame.last_tx)
-    (and_true _ _ (good_links m.lastlink 0 (live m) fi.frame.rising fi.links)
+    (and_from _ _ (le-leb m.lastlink 60000 fi.frame.last_link)
+    (and_from _ _ (le-leb m.lasttx 60000 fi.frame.last_tx)
+    (and_from _ _ (good_links m.lastlink 0 (live m) fi.frame.rising fi.links)
     (good_parties m 0 m.parties (λ i k e. subst (λ (x : ℕ). party_good m x (party m i) ≡ true) (omega arith)
     (good_party m i (party m i) (fi.choices i) (λ n. look_works m i (party m i).served
-    (and_true _ _ (fi.works i n) (rw (fi.mine i n) (same_refl i))))))))))
+    (and_from _ _ (fi.works i n) (rw (fi.mine i n) (same_refl i))))))))))
 
 pub fresh_fine : Fine fresh_monitor
 unfolding sound links_good parties_good party_good reports_good any_of pick
 fresh_fine = sound_fine fresh_monitor (record { parties16 = refl; links32 = refl }) refl
 
 pub clock_fine : (m : Monitor) (t : ℕ) → Fine m → Fine (with_clock m t)
-clock_fine m t fi = record {
-  frame = record {
-    shape = record { parties16 = fi.frame.shape.parties16; links32 = fi.frame.shape.links32 };
-    count32 = fi.frame.count32;
-    last_link = fi.frame.last_link;
-    last_tx = fi.frame.last_tx;
-    rising = fi.frame.rising;
-  };
-  links = fi.links;
-  choices = fi.choices;
-  works = fi.works;
-  mine = fi.mine;
-}
+clock_fine m t fi = search rules
 
 -- ---- a move keeps it
 -- what soundness says of links and of who serves them
@@ -194,14 +177,11 @@ record Safe (l l' : Link) : Type 0 where
   server' : is_working l' ≡ true → l'.server ≡ l.server
 
 same_safe : {l l' : Link} → l' ≡ l → Safe l l'
-same_safe e = record { good' = λ g. subst (λ (x : Link). link_good x ≡ true) (sym e) g; server' = λ _. ap (λ (x : Link). x.server) e }
+same_safe e = search rules
 
 gone_safe : {l l' : Link} → l' ≡ no_link → Safe l l'
 unfolding no_link
-gone_safe e = record {
-  good' = λ _. subst (λ (x : Link). link_good x ≡ true) (sym e) no_link_good;
-  server' = λ w. not_both (subst (λ (x : Link). is_working x ≡ true) e w) refl;
-}
+gone_safe e = search rules
 
 like_safe : {l l' : Link} → Like l l' → Safe l l'
 like_safe k = record { good' = k.good'; server' = λ _. k.server' }
@@ -220,14 +200,7 @@ module _ {P : ℕ → Party} {L : ℕ → Link} {P' : ℕ → Party} {L' : ℕ �
   -- who still serves a link serves the same, and it works
   good_after : ((e : ℕ) → Safe (L e) (L' e)) → ((q : ℕ) → Nz (P' q).served → (P' q).served ≡ (P q).served)
       → ((q : ℕ) → Nz (P' q).served → is_working (L (P q).served) ≡ true → is_working (L' (P q).served) ≡ true) → Good P' L'
-  good_after s v w =
-      let nz : (q : ℕ) → Nz (P' q).served → Nz (P q).served = λ q n. subst (λ (x : ℕ). Nz x) (v q n) n in
-      let wk : (q : ℕ) → Nz (P' q).served → is_working (L' (P q).served) ≡ true = λ q n. w q n (g.works q (nz q n)) in
-      record {
-        links = λ d. (s d).good' (g.links d);
-        works = λ q n. subst (λ (x : ℕ). is_working (L' x) ≡ true) (sym (v q n)) (wk q n);
-        mine = λ q n. subst (λ (x : ℕ). (L' x).server ≡ q) (sym (v q n)) ((s (P q).served).server' (wk q n) ∙ g.mine q (nz q n));
-      }
+  good_after s v w = search rules
 
   idle_good : Idle P L P' L' → ((e : ℕ) → Safe (L e) (L' e)) → ((e : ℕ) → is_working (L e) ≡ true → is_working (L' e) ≡ true) → Good P' L'
   idle_good i s w = good_after s (λ q _. i.served' q) (λ q _. w (P q).served)
@@ -239,8 +212,7 @@ module _ {P : ℕ → Party} {L : ℕ → Link} {P' : ℕ → Party} {L' : ℕ �
   ends_good p k = good_after (λ e. left_safe (k.less e)) (λ q _. k.served' q) (λ q _. k.works' (P q).served)
 
   begins_good : (p t : ℕ) → Begins P L P' L' p t → Good P' L'
-  begins_good p t k =
-      good_after (λ e. same_safe (k.links' e)) (λ q _. k.served' q) (λ q _ w. subst (λ (x : Link). is_working x ≡ true) (sym (k.links' (P q).served)) w)
+  begins_good p t k = search rules
 
   makes_good : (p d x : ℕ) → is_working (L d) ≡ false → Makes P L P' L' p d x → Good P' L'
   makes_good p d x n k = idle_good k.idle
@@ -251,18 +223,18 @@ module _ {P : ℕ → Party} {L : ℕ → Link} {P' : ℕ → Party} {L' : ℕ �
   takes_good p d h k =
       let kept : (q : ℕ) → same q p ≡ false → Nz (P q).served → L' (P' q).served ≡ L (P q).served = λ q a n. ap L' (k.served' q a)
       ∙ k.others (P q).served
-      (same_ne _ d (λ r. not_both k.waits (working_waits_not (L d) (subst (λ (x : ℕ). is_working (L x) ≡ true) r (g.works q n))))) in
-      let nz : (q : ℕ) → same q p ≡ false → Nz (P' q).served → Nz (P q).served = λ q a n. subst (λ (x : ℕ). Nz x) (k.served' q a) n in
+      (same_ne _ d (λ r. not_both k.waits (working_waits_not (L d) (rw r at (g.works q n))))) in
+      let nz : (q : ℕ) → same q p ≡ false → Nz (P' q).served → Nz (P q).served = λ q a n. rw (k.served' q a) at n in
       let new : (q : ℕ) → same q p ≡ true → L' (P' q).served ≡ working (L d) p =
       λ q a. ap (λ (x : ℕ). L' (P' x).served) (same_true q p a) ∙ ap L' k.p_served ∙ k.works
       in
       record {
         links = λ e. test (same e d)
-            (λ a. subst (λ (x : Link). link_good x ≡ true) (sym (ap L' (same_true e d a) ∙ k.works)) (working_good (L d) p h k.waits (g.links d)))
-            (λ a. subst (λ (x : Link). link_good x ≡ true) (sym (k.others e a)) (g.links e));
+            (λ a. rw (ap L' (same_true e d a) ∙ k.works) (working_good (L d) p h k.waits (g.links d)))
+            (λ a. rw (k.others e a) (g.links e));
         works = λ q n. test (same q p)
-            (λ a. subst (λ (x : Link). is_working x ≡ true) (sym (new q a)) refl)
-            (λ a. subst (λ (x : Link). is_working x ≡ true) (sym (kept q a (nz q a n))) (g.works q (nz q a n)));
+            (λ a. rw (new q a) refl)
+            (λ a. rw (kept q a (nz q a n)) (g.works q (nz q a n)));
         mine = λ q n. test (same q p)
             (λ a. ap (λ (x : Link). x.server) (new q a) ∙ sym (same_true q p a))
             (λ a. ap (λ (x : Link). x.server) (kept q a (nz q a n)) ∙ g.mine q (nz q a n));

@@ -1,12 +1,7 @@
 -- A table computed at once: one test over all its entries, and what that says of each; the test of answers.
 -- Assumes nothing.
-use mathlib.Core.Path.{◌≡◌, refl, ap₂}
-use mathlib.Core.Bool.{Bool, true, false, ◌&&◌}
-use mathlib.Core.List.{List, [], ◌∷◌}
-use Prim.Native.Nat.{ℕ, zero, suc, ◌<◌}
-use native.Mathlib.Nat.{le_of_suc-le-suc, not-suc-le-zero}
-use lib.IntN.{ℤ}
-use lib.ListN.{length, get_or}
+use Rattle.std.proofs.Common.{◌≡◌, refl, ap₂, Bool, true, false, ◌&&◌, List, [], ◌∷◌, ℕ, zero}
+use Rattle.std.proofs.Common.{suc, ◌<◌, le_of_suc-le-suc, not-suc-le-zero, ℤ, length, get_or}
 use Rattle.rules.specs.History.{same_code}
 use Rattle.rules.proofs.AnswerCodes.{same_code_lem}
 use Rattle.rules.proofs.Logic.{and_l, and_r}

@@ -1,10 +1,6 @@
 -- The managers' votes in one table: each list of calls, run on a fresh monitor, ends as it says.
 -- Assumes nothing.
-use mathlib.Core.Path.{refl}
-use mathlib.Core.List.{List, [], ◌∷◌, ◌++◌}
-use Prim.Native.Nat.{ℕ, ◌<◌}
-use lib.IntN.{pos, negsuc}
-use lib.ListN.{length, get_or}
+use Rattle.std.proofs.Common.{refl, List, [], ◌∷◌, ◌++◌, ℕ, ◌<◌, pos, negsuc, length, get_or}
 use Rattle.rules.specs.Choice.{pick, same}
 use Rattle.rules.specs.Codes.{no_begin}
 use Rattle.rules.specs.Lists.{first_of, any_of, collect}

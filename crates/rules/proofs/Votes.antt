@@ -1,14 +1,9 @@
 -- Laws of the managers' reports: the codes of a commit, when it is committed, and reports after one more.
 -- Assumes nothing.
-use mathlib.Core.Path.{◌≡◌, refl, sym, ap, ◌∙◌}
-use mathlib.Core.List.{List, [], ◌∷◌}
-use mathlib.Core.Bool.{Bool, true, false, not, ◌&&◌, ◌||◌, beq}
-use Prim.Native.Nat.{ℕ, zero, suc, ◌+◌, ◌≤◌}
-use native.Mathlib.Omega.{arith}
-use lib.Dec.{eqb, ltb}
-use lib.IntN.{ℤ}
-use lib.ListN.{length, get_or, set, length-set}
-use borrow.Author.Tests.{eqb-true, eqb-false, eq-eqb, ne_eqb, le-ltb, le-leb, lt-leb}
+use Rattle.std.proofs.Common.{◌≡◌, refl, sym, ap, ◌∙◌, List, [], ◌∷◌, Bool, true, false, not, ◌&&◌, ◌||◌, ℕ, zero, suc, ◌+◌, ◌≤◌}
+use Rattle.std.proofs.Common.{arith, eqb, ltb, ℤ, length, get_or, set, length-set, eqb-true, eq-eqb, ne_eqb, le-ltb, le-leb, rules}
+use Rattle.std.proofs.Math.Bool.{beq, or-true, or-false}
+use Rattle.std.proofs.lemmas.Bool.{eqb-false, lt-leb, not-true}
 use Rattle.rules.specs.Choice.{pick}
 use Rattle.rules.specs.Codes.{tx_ok, no_begin, not_allowed_now}
 use Rattle.rules.specs.Lists.{any_of}
@@ -20,7 +15,7 @@ use Rattle.rules.specs.Sound.{reports_good}
 use Rattle.rules.specs.Votes.{report_number, report_is, is_prepared, is_veto, is_rolled_back, is_mixed, is_hazard, cant_start, decides, some_rolled_back, vote_code, code_after, commit_code, all_can_start, report_of}
 use Rattle.rules.specs.Standing.{is_against, is_done}
 use Rattle.rules.specs.declared.Monitor.{Monitor}
-use Rattle.rules.proofs.Logic.{by_test, test, not_both, and_l, and_r, or_true, or_false, not_true, pick_true, pick_false, pick_yes, pick_or, beq_true}
+use Rattle.rules.proofs.Logic.{by_test, test, not_both, and_l, and_r, pick_true, pick_false, pick_yes, pick_or, beq_true}
 
 -- ---- tables of tests
 both : (Bool → Bool) → Bool
@@ -50,7 +45,7 @@ commit_code_test g h can rs = every_code_lem (λ d x z k b. g (vote_code d x z k
 any_or : (f g : ℕ → Bool) (rs : List ℕ) → any_of (λ r. f r || g r) rs ≡ any_of f rs || any_of g rs
 unfolding any_of pick
 any_or f g [] = refl
-any_or f g (r ∷ rs) = test (f r) (λ y. rw y) (λ y. rw y (test (g r) (λ z. rw (z, or_true)) (λ z. rw z (any_or f g rs))))
+any_or f g (r ∷ rs) = test (f r) (λ y. rw y) (λ y. rw y (test (g r) (λ z. rw (z, or-true)) (λ z. rw z (any_or f g rs))))
 
 any_against : (rs : List ℕ) → any_of is_against rs ≡ any_of is_veto rs || (any_of is_rolled_back rs || (any_of is_mixed rs || any_of is_hazard rs))
 unfolding is_against
@@ -59,7 +54,7 @@ any_against rs = any_or is_veto _ rs ∙ ap (λ x. any_of is_veto rs || x) (any_
 -- committed after a commit decision, where none is mixed, is a hazard or counts as rolled back
 vote_done : (d x z k b : Bool) → is_done (vote_code d x z k b) ≡ d && not (b || (x || z))
 unfolding every_code both vote_code pick
-vote_done d x z k b = beq_true _ _ (every_code_lem (λ d x z k b. beq (is_done (vote_code d x z k b)) (d && not (b || (x || z)))) refl d x z k b)
+vote_done d x z k b = search rules
 
 -- a commit is committed exactly when document 01's conditions hold and no report stands against it
 pub vote_law : (can : Bool) (rs : List ℕ) → is_done (commit_code can rs) ≡ can && not (any_of is_against rs)
@@ -69,10 +64,8 @@ vote_law can rs = vote_done _ (any_of is_mixed rs) (any_of is_hazard rs) _ _
     ∙ ap (λ x. can && not x) (sym (any_against rs))
   where
     none-against : (can v b p y : Bool) → (can && not v) && not ((b || (v || (not (can && not v) && p))) || y) ≡ can && not (v || (b || y))
-    none-against false v b p y = refl
-    none-against true true b p y = refl
-    none-against true false true p y = refl
     none-against true false false p y = refl
+    none-against _ _ _ p y = refl
 
 -- the same with 100 subtracted
 pub no_begin_law : (can : Bool) (rs : List ℕ) → is_done (no_begin (commit_code can rs)) ≡ is_done (commit_code can rs)
@@ -111,7 +104,7 @@ report_small b c h = by_test (λ x. ltb 14 x ≡ false) (λ _. le-ltb 14 (8 + b)
 
 pub reports_set : (rs : List ℕ) (a v : ℕ) → ltb 14 v ≡ false → reports_good rs ≡ true → reports_good (set rs a v) ≡ true
 unfolding reports_good
-reports_set rs a v s g = rw (length-set rs a v, and_l (eqb (length rs) 4) _ g, any_set (ltb 14) a v rs (not_true _ (and_r (eqb (length rs) 4) _ g)) s)
+reports_set rs a v s g = rw (length-set rs a v, and_l (eqb (length rs) 4) _ g, any_set (ltb 14) a v rs (not-true _ (and_r (eqb (length rs) 4) _ g)) s)
 
 pub reports_four : (rs : List ℕ) → reports_good rs ≡ true → length rs ≡ 4
 unfolding reports_good
@@ -122,7 +115,7 @@ report_says : (b b' c : ℕ) → b ≤ 6 → b' ≤ 6 → report_is b' (report_n
 unfolding report_is report_number
 report_says b b' c h h' = test (eqb c 1)
     (λ y. rw (pick_true {A = ℕ} (eqb c 1) (8 + b) (1 + b) y) (test (eqb b b')
-    (λ z. let e = eqb-true b b' z in rw (z, eq-eqb (8 + b) (8 + b') (omega arith), or_true))
+    (λ z. let e = eqb-true b b' z in rw (z, eq-eqb (8 + b) (8 + b') (omega arith), or-true))
     (λ z. let e = eqb-false b b' z in rw (z, ne_eqb (8 + b) (1 + b') (omega arith), ne_eqb (8 + b) (8 + b') (omega arith)))))
     (λ y. rw (pick_false {A = ℕ} (eqb c 1) (8 + b) (1 + b) y) (test (eqb b b')
     (λ z. let e = eqb-true b b' z in rw (z, eq-eqb (1 + b) (1 + b') (omega arith)))
@@ -149,9 +142,5 @@ pub any_four : (f : ℕ → Bool) (rs : List ℕ) → length rs ≡ 4 → any_of
 unfolding any_of
 any_four f (r₀ ∷ r₁ ∷ r₂ ∷ r₃ ∷ []) e =
     pick_or (f r₀) _ ∙ ap (λ x. f r₀ || x) (pick_or (f r₁) _ ∙ ap (λ x. f r₁ || x) (pick_or (f r₂) _ ∙ ap (λ x. f r₂ || x)
-    (pick_or (f r₃) false ∙ or_false (f r₃))))
-any_four f [] e = absurd (omega arith)
-any_four f (r₀ ∷ []) e = absurd (omega arith)
-any_four f (r₀ ∷ r₁ ∷ []) e = absurd (omega arith)
-any_four f (r₀ ∷ r₁ ∷ r₂ ∷ []) e = absurd (omega arith)
-any_four f (r₀ ∷ r₁ ∷ r₂ ∷ r₃ ∷ r₄ ∷ rs) e = absurd (omega arith)
+    (pick_or (f r₃) false ∙ or-false (f r₃))))
+any_four f _ e = absurd (omega arith)

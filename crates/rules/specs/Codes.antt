@@ -2,8 +2,8 @@
 -- Assumes nothing.
 use Rattle.std.specs.Prelude.{ℕ, ℤ, pos, negsuc, ◌+ℤ◌}
 use Rattle.rules.specs.declared.refusal.Refusal.{Refusal}
-use Rattle.rules.specs.declared.refusal.Refusal.TheVariants.{TooLittleRoom, CutShort, Unsound, UnknownKind, UnknownParty, TxProtocolError, TxError, TxEinval, BadArgument, NotAllowedNow, NoSuchEnd, NotOffered}
-use Rattle.rules.specs.declared.refusal.Refusal.TheVariants.{NoRoomLeft, InTransaction, TimedOut, NothingWaiting, BadReport, NotPermitted, NoReplyYet, NothingUnread, UnreadFull}
+use Rattle.rules.specs.declared.refusal.Refusal.TheVariants.{TooLittleRoom, CutShort, Malformed, Unsound, UnknownKind, UnknownParty, TxProtocolError, TxError, TxEinval, BadArgument, NotAllowedNow, NoSuchEnd, NotOffered}
+use Rattle.rules.specs.declared.refusal.Refusal.TheVariants.{NoRoomLeft, InTransaction, TimedOut, NothingWaiting, NoSuchSequence, BadReport, NotPermitted, NoReplyYet, NothingUnread, UnreadFull}
 
 -- ---- TX (document 002)
 abbrev pub tx_ok : ℤ
@@ -197,6 +197,7 @@ tp_fail = 2
 abbrev pub code_of : Refusal → ℤ
 code_of TooLittleRoom = too_little_room
 code_of CutShort = cut_short
+code_of Malformed = malformed
 code_of Unsound = unsound
 code_of UnknownKind = unknown_kind
 code_of UnknownParty = unknown_party
@@ -211,6 +212,7 @@ code_of NoRoomLeft = no_room_left
 code_of InTransaction = in_transaction
 code_of TimedOut = timed_out
 code_of NothingWaiting = nothing_waiting
+code_of NoSuchSequence = no_such_sequence
 code_of BadReport = bad_report
 code_of NotPermitted = not_permitted
 code_of NoReplyYet = no_reply_yet

@@ -1,6 +1,6 @@
-// The numbers of answers that are no refusals of a call, and of events, flags and returns, by meaning: a name for each place that answers one, as
-// specs/Codes has them. Those of a call's refusals are in `Refusal`. TPESVCFAIL and TPESVCERR have none: they come of a sum (replies::outcome_code of
-// monitor).
+// The numbers of answers that are no refusals, and of events, flags and returns, by meaning: a name for each place that answers one, as specs/Codes has
+// them. Refusals are in `Refusal`. TPESVCFAIL and TPESVCERR have no name: they come of a sum (replies::outcome_code of monitor).
+// Numbers and no enums: they come in C's fields, or go into them, and one such field has events, outcomes and flags alike.
 
 // ---- TX (document 002)
 pub const TX_OK: i64 = 0;
@@ -29,21 +29,6 @@ pub const FILE_RUN: i64 = 0;
 
 // ---- a request was written in OSI TP's primitives, or read from them
 pub const SEQUENCE_DONE: i64 = 0;
-
-// ---- refusals of a file or a sequence
-pub const TOO_LITTLE_ROOM: i64 = 16;
-
-pub const CUT_SHORT: i64 = 17;
-
-pub const MALFORMED: i64 = 18;
-
-pub const UNSOUND: i64 = 19;
-
-// of a request that has no sequence
-pub const BAD_ARGUMENT: i64 = 22;
-
-// of a reader of OSI TP's primitives
-pub const NO_SUCH_SEQUENCE: i64 = 33;
 
 // ---- accepted by the XATMI kinds
 pub const TP_ACCEPTED: i64 = 0;

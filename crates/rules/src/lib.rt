@@ -1,12 +1,14 @@
 // The monitor's record, a call and its answer: the data that the rules in specs/ speak of. The crate monitor holds the record as words.
 #![tactic(auto)]
 
+mod arguments;
 pub mod codes;
 mod refusal;
 
 ghost use Rattle.std.specs.Prelude.{◌≡◌};
 ghost use Rattle.rules.specs.Record.{fresh_party, fresh_link};
 
+pub use arguments::{is_service, no_reply, no_tran};
 pub use refusal::Refusal;
 
 // A party. Yes/no fields and other choices are numbers, so that whatever a host lends is a value that can be refused.
@@ -64,7 +66,8 @@ pub struct Link {
     pub granting: u32,
     // 0 no, 1 disconnected, 2 its server was notified (document 01: cut, told)
     pub disconnected: u32,
-    // tokens sent and not yet received, the oldest first; places past the last are 0 (memory is fixed, so an array with a count)
+    // tokens sent and not yet received, the oldest first; places past the last are 0. An array with a count, since a host may lend any count, which must be
+    // one that can be refused
     pub unread: [u32; 4],
     // how many are unread
     pub filled: u32,
@@ -77,7 +80,7 @@ pub struct Monitor {
     pub lastlink: u32,
     pub lasttx: u32,
     pub parties: [Party; 16],
-    // the links there are, in rising number; places past the last are fresh (memory is fixed, so an array with a count)
+    // the links there are, in rising number; places past the last are fresh (an array with a count, as the unread tokens)
     pub links: [Link; 32],
     // how many links there are
     pub count: usize,
@@ -96,7 +99,7 @@ pub struct Call {
 }
 
 #[repr(C)]
-#[derive(Clone, Copy)]
+#[derive(Clone, Copy, Default)]
 pub struct Answer {
     pub code: i64,
     pub value: u32,
@@ -107,7 +110,8 @@ pub struct Answer {
     pub tx: u32,
 }
 
-// What a kind's rule gives: the record after it, and the answer's fields but the last.
+// What a kind's rule gives: the record after it, and the answer's fields but the last. Of the rules alone, as the next: no code gives the two, and the crate
+// monitor has the like over its words.
 #[derive(Clone, Copy)]
 pub struct Ruled {
     pub monitor: Monitor,
@@ -148,10 +152,31 @@ impl Link {
     // how many tokens can be unread
     pub const UNREAD: u32 = 4;
 
+    // A name beside `Default`, as a party has one, whose fresh one is not all 0.
     pub fn fresh() -> Link
         ensures { result ≡ fresh_link }
     {
         Link::default()
+    }
+}
+
+impl From<[u32; 6]> for Call {
+    ghost use Rattle.rules.specs.Run.{call_at};
+
+    ghost from_gives = { λ numbers call. call ≡ call_at numbers };
+
+    // In a list and in a drill file: its fields in their order.
+    #[tactic(auto, unfolding(crate::specs::Run::call_at))]
+    fn from(numbers: [u32; 6]) -> Call {
+        let [clock, party, kind, a, b, c] = numbers;
+        Call {
+            clock,
+            party,
+            kind,
+            a,
+            b,
+            c,
+        }
     }
 }
 

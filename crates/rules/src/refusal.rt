@@ -1,4 +1,4 @@
-// Why a call or a list of calls is refused.
+// Why a call, a list of calls, a drill file or a sequence on the wire is refused.
 ghost use Rattle.std.specs.Prelude.{◌≡◌, true};
 ghost use Rattle.rules.specs.Codes.{code_of};
 ghost use Rattle.rules.specs.Refusals.{is_refusal};
@@ -6,9 +6,10 @@ ghost use Rattle.rules.specs.Refusals.{is_refusal};
 // A reason has a name for each place that answers it; `code` gives its number.
 #[derive(Clone, Copy, PartialEq, Eq)]
 pub enum Refusal {
-    // of a list: its answer places are too few; it ends inside a call
+    // of a list, a file or a sequence: the room is too little; it ends inside a call or a number; a number is too long, too large, or longer than needed
     TooLittleRoom,
     CutShort,
+    Malformed,
     // before the clock moves; of a list too
     Unsound,
     UnknownKind,
@@ -27,6 +28,8 @@ pub enum Refusal {
     TimedOut,
     // an empty take
     NothingWaiting,
+    // numbers that are no sequence
+    NoSuchSequence,
     // a resource manager's report
     BadReport,
     // a party without the right
@@ -40,7 +43,7 @@ pub enum Refusal {
 }
 
 impl Refusal {
-    // Its number.
+    // Its number. No `From`: `why.code()` says what number it is.
     #[tactic(auto, unfolding(crate::specs::Refusals::is_refusal))]
     pub fn code(self) -> i64
         ensures is { result ≡ code_of self }
@@ -49,6 +52,7 @@ impl Refusal {
         match self {
             Refusal::TooLittleRoom => 16,
             Refusal::CutShort => 17,
+            Refusal::Malformed => 18,
             Refusal::Unsound => 19,
             Refusal::UnknownKind => 20,
             Refusal::UnknownParty => 21,
@@ -63,6 +67,7 @@ impl Refusal {
             Refusal::InTransaction => 27,
             Refusal::TimedOut => 28,
             Refusal::NothingWaiting => 32,
+            Refusal::NoSuchSequence => 33,
             Refusal::BadReport => 34,
             Refusal::NotPermitted => 35,
             Refusal::NoReplyYet => 36,

@@ -1,7 +1,8 @@
 -- Laws of the reader's loop: it keeps the first eight of the numbers that it reads, and they say what all of them say.
 -- Assumes nothing.
-use Rattle.std.proofs.Common.{⊎_elim, pos, ◌≡◌, ℕ, ◌<◌, ◌≤◌, ◌↔◌, List, ◌∷◌, [], ◌++◌, length, take, refl, ap, sym, ◌∙◌, arith, Result, Ok, Err, IsOk, OnOk, OnErr}
-use Rattle.std.proofs.lemmas.List.{length-append, length-take, length-take-le, take_all, take-append-le}
+use Rattle.std.proofs.Common.{⊎_elim, pos, ◌≡◌, ℕ, ◌<◌, ◌≤◌, ◌↔◌, List, ◌∷◌, [], ◌++◌, length, take, refl, ap, sym, ◌∙◌}
+use Rattle.std.proofs.Common.{arith, Result, Ok, Err, IsOk, OnOk, OnErr, length-append, length-take, length-take-le, take_all}
+use Rattle.std.proofs.lemmas.List.{take-append-le}
 use Rattle.std.proofs.lemmas.Bool.{false≢true}
 use Rattle.number.specs.declared.reader.ReadError as number
 use Rattle.number.specs.declared.reader.ReadError.TheVariants as kind

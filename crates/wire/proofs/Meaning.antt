@@ -1,7 +1,7 @@
 -- What numbers say: a request's sequence says that request, where it can be written, and other numbers say none.
 -- Assumes nothing.
 use Rattle.std.proofs.Common.{ℕ, ◌-◌, ◌≤◌, ◌≡◌, refl, ap, ap₂, sym, ◌∙◌, subst, ◌≢◌, ⊎_elim, Bool, true, false, not, ◌&&◌, ◌||◌, List, arith, eqb-true, eq-eqb, leb-true, eqb, leb, length, get_or}
-use borrow.Author.Tests.{eqb-false}
+use Rattle.std.proofs.lemmas.Bool.{eqb-false}
 use Rattle.number.proofs.Reading.{below_or_not}
 use Rattle.rules.specs.Choice.{pick}
 use Rattle.rules.specs.Codes.{no_such_sequence}

@@ -1,7 +1,7 @@
 -- An accepted request: what is written of its call and answer says what its new link says, and is never refused by 22.
 -- Assumes nothing.
 use Rattle.std.proofs.Common.{ℕ, suc, ◌+◌, ◌≤◌, ◌<◌, ◌≡◌, refl, ap, sym, ◌∙◌, subst, ◌⊎◌, inl, inr, ⊎_elim, true, false, not, ◌&&◌, ◌||◌, List, add-one, arith, ltb-true, leb-true, eqb-true, eqb, ltb, leb, pos, length}
-use borrow.Author.Tests.{eqb-false}
+use Rattle.std.proofs.lemmas.Bool.{eqb-false}
 use Rattle.number.proofs.Reading.{below_or_not}
 use Rattle.number.proofs.Stores.{fit_answer, unfit_answer}
 use Rattle.rules.specs.Choice.{pick}

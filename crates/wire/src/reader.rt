@@ -4,9 +4,9 @@ ghost use Rattle.wire.specs.Sequences.{meaning_of};
 ghost use Rattle.wire.specs.Entries.{read_of};
 ghost use Rattle.wire.specs.Answers.{read_code, read_told};
 
-use super::sequence::{Request, is_service, request_of};
+use super::sequence::{Request, request_of};
 use arrayvec::ArrayVec;
-use rules::codes;
+use rules::{Refusal, is_service};
 
 // Why no request is read.
 #[derive(Clone, Copy, Debug, PartialEq, Eq)]
@@ -20,14 +20,14 @@ pub enum ReadError {
 }
 
 impl ReadError {
-    // The refusal's number.
+    // The refusal's number. No `From`: `error.code()` says what number it is, `i64::from(error)` would not.
     pub fn code(self) -> i64
         ensures { result ≡ read_code self }
     {
         match self {
-            ReadError::CutShort => codes::CUT_SHORT,
-            ReadError::Malformed => codes::MALFORMED,
-            ReadError::NoSuchSequence => codes::NO_SUCH_SEQUENCE,
+            ReadError::CutShort => Refusal::CutShort.code(),
+            ReadError::Malformed => Refusal::Malformed.code(),
+            ReadError::NoSuchSequence => Refusal::NoSuchSequence.code(),
         }
     }
 }
@@ -56,7 +56,7 @@ fn meaning(numbers: &[u32]) -> Result<Request, ReadError>
 }
 
 // Reads every number of the input, of which the first bad one decides, 17 or 18; then what they say, or 33.
-#[tactic(auto, using(crate::proofs::Kept::keeps_none, crate::proofs::Kept::keeps_one), unfolding(number::specs::Answers::decoded))]
+#[tactic(auto, using(crate::proofs::Kept::keeps_none, crate::proofs::Kept::keeps_one, number::proofs::Reading::number_after), unfolding(number::specs::Answers::decoded))]
 pub fn wire_read(input: &[u8]) -> Result<Request, ReadError>
     ensures { read_told result ≡ read_of input.now }
 {

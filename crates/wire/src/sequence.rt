@@ -2,20 +2,17 @@
 ghost use Rattle.std.specs.Prelude.{◌≡◌, ◌≢◌, IfSome, IfNone};
 ghost use Rattle.number.specs.Answers.{encoded};
 ghost use Rattle.number.specs.Writer.{write_answer, write_buffer};
-ghost use Rattle.rules.specs.Choice.{pick};
-ghost use Rattle.rules.specs.Requests.{no_reply, no_tran};
-ghost use Rattle.rules.specs.Services.{is_service};
 ghost use Rattle.wire.specs.Sequences.{sequence_of, is_writable, IsSequenceOf};
 ghost use Rattle.wire.specs.declared.sequence.Request.{Request};
-ghost use Rattle.wire.specs.Entries.{bytes_of, some_tx, outgoing_of};
+ghost use Rattle.wire.specs.Entries.{bytes_of, outgoing_of};
 ghost use Rattle.wire.specs.Answers.{outgoing_told};
 
 use number::{NoRoom, encode_all};
-use rules::{Answer, Call, codes};
+use rules::{Answer, Call, codes, is_service, no_reply, no_tran};
 
 // What a sequence says of a request. Yes is 1 and no is 0, so that whatever a host hands in is a value that can be refused.
 #[repr(C)]
-#[derive(Clone, Copy)]
+#[derive(Clone, Copy, Default)]
 pub struct Request {
     pub service: u32,
     pub token: u32,
@@ -25,7 +22,8 @@ pub struct Request {
     pub tx: u32,
 }
 
-// The primitives of OSI TP, numbered in the order of their first naming in document 02.
+// The primitives of OSI TP, numbered in the order of their first naming in document 02. Numbers and no enum, since they stand among others, as service
+// and token, in sequences that are matched and written as numbers.
 const TP_BEGIN_DIALOGUE: u32 = 1;
 
 const TP_DEFERRED_END_DIALOGUE: u32 = 2;
@@ -43,6 +41,7 @@ pub(crate) fn put_sequence(buffer: &mut [u8], r: Request) -> Result<usize, NoRoo
     ensures bytes { buffer.new ≡ write_buffer buffer.old 0 (bytes_of r) }
 {
     let Request { service, token, .. } = r;
+    // A call in each arm: one behind the match would borrow an array of an arm's own, and that gets no proof.
     match (r.reply, r.tx) {
         (1, 1) => encode_all(
             buffer,
@@ -135,13 +134,6 @@ pub(crate) fn request_of(numbers: &[u32]) -> Option<Request>
     }
 }
 
-// Services are 1 to 64.
-pub(crate) fn is_service(a: u32) -> bool
-    ensures { result ≡ is_service a }
-{
-    (1..=64).contains(&a)
-}
-
 // Can it be written?
 #[tactic(auto, unfolding(crate::specs::Sequences::is_writable))]
 pub(crate) fn is_writable(r: Request) -> bool
@@ -150,43 +142,19 @@ pub(crate) fn is_writable(r: Request) -> bool
     is_service(r.service) && matches!((r.reply, r.tx), (0 | 1, 0) | (1, 1))
 }
 
-// Is a reply wanted (1), or none (0)?
-#[tactic(auto, unfolding(rules::specs::Choice::pick))]
-fn reply_wanted(b: u32) -> u32
-    ensures { result ≡ pick (no_reply b) 0 1 }
-{
-    if b / codes::TPNOREPLY % 2 == 1 {
-        return 0;
-    }
-    1
-}
-
-// Is the link of the caller's transaction (1), or of none (0)?
-#[tactic(auto, unfolding(crate::specs::Entries::some_tx, rules::specs::Choice::pick))]
-fn tx_joined(b: u32, tx: u32) -> u32
-    ensures { result ≡ some_tx (pick (no_tran b) 0 tx) }
-{
-    if b / codes::TPNOTRAN % 2 == 1 {
-        return 0;
-    }
-    if tx == 0 {
-        return 0;
-    }
-    1
-}
-
 // What is to be written of a call with its answer: of an accepted kind 12 a request, of every other nothing.
-#[tactic(auto, unfolding(crate::specs::Entries::outgoing_of, crate::specs::Entries::is_accepted, rules::specs::Choice::pick))]
+#[tactic(auto, unfolding(crate::specs::Entries::outgoing_of, crate::specs::Entries::is_accepted, crate::specs::Entries::some_tx, rules::specs::Choice::pick))]
 pub fn wire_of(call: Call, answer: Answer) -> Option<Request>
     ensures { outgoing_told result ≡ outgoing_of call answer }
 {
+    // The one kind that is asked for here, and a call and its answer have numbers as C hands them in.
     if call.kind != 12 || answer.code != codes::TP_ACCEPTED {
         return None;
     }
     Some(Request {
         service: call.a,
         token: call.c,
-        reply: reply_wanted(call.b),
-        tx: tx_joined(call.b, answer.tx),
+        reply: u32::from(!no_reply(call.b)),
+        tx: u32::from(!no_tran(call.b) && answer.tx != 0),
     })
 }

@@ -5,7 +5,7 @@ ghost use Rattle.wire.specs.Answers.{write_code, written_told};
 
 use super::sequence::{Request, is_writable, put_sequence};
 use number::NoRoom;
-use rules::codes;
+use rules::Refusal;
 
 // Why no request is written.
 #[derive(Clone, Copy, Debug, PartialEq, Eq)]
@@ -17,13 +17,13 @@ pub enum WriteError {
 }
 
 impl WriteError {
-    // The refusal's number.
+    // The refusal's number; no `From`, as in the reader.
     pub fn code(self) -> i64
         ensures { result ≡ write_code self }
     {
         match self {
-            WriteError::BadArgument => codes::BAD_ARGUMENT,
-            WriteError::TooLittleRoom => codes::TOO_LITTLE_ROOM,
+            WriteError::BadArgument => Refusal::BadArgument.code(),
+            WriteError::TooLittleRoom => Refusal::TooLittleRoom.code(),
         }
     }
 }

@@ -9,14 +9,8 @@ use rules::{Answer, Call, codes};
 use std::marker::Model;
 use wire::{ReadError, Request, WriteError};
 
-const NO_REQUEST: Request = Request {
-    service: 0,
-    token: 0,
-    reply: 0,
-    tx: 0,
-};
-
-// What reading tells: 0 and the request, or a refusal and zeros.
+// What reading tells: 0 and the request, or a refusal and zeros. A number and a value beside it, here and in the structs below, since C has no `Result`
+// and no `Option`; and a struct for each, since it has no generic one.
 #[repr(C)]
 #[derive(Clone, Copy)]
 pub struct Read {
@@ -24,6 +18,7 @@ pub struct Read {
     pub request: Request,
 }
 
+// Written out for each struct of C's: a macro of the repository's own that writes an `impl` is refused, and the derives know no view.
 impl Model for Read {
     ghost use Rattle.wire.specs.Sequences.{Read as Told};
 
@@ -47,7 +42,7 @@ impl From<Result<Request, ReadError>> for Read {
             },
             Err(error) => Read {
                 code: error.code(),
-                request: NO_REQUEST,
+                request: Request::default(),
             },
         }
     }
@@ -118,7 +113,7 @@ impl From<Option<Request>> for Outgoing {
             Some(request) => Outgoing { count: 1, request },
             None => Outgoing {
                 count: 0,
-                request: NO_REQUEST,
+                request: Request::default(),
             },
         }
     }

@@ -23,6 +23,7 @@ fn answer_next<R: Read>(source: &mut R, out: &impl Print) -> Option<()> {
 fn main(rt: HostRuntime) {
     let mut source = rt.stdin();
     let out = rt.stdout();
+    // Every loop has to end, and how many queries come is not known.
     for _ in 0..u64::MAX {
         if answer_next(&mut source, &out).is_none() {
             return;

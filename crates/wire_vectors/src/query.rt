@@ -12,8 +12,13 @@ pub fn bytes<R: Read, const N: usize>(source: &mut R) -> Option<[u8; N]> {
     Some(bytes)
 }
 
-fn number<R: Read>(source: &mut R) -> Option<u32> {
-    Some(u32::from_le_bytes(bytes(source)?))
+// The next numbers, as many as the array has.
+fn numbers<R: Read, const N: usize>(source: &mut R) -> Option<[u32; N]> {
+    let mut numbers = [0; N];
+    for number in &mut numbers {
+        *number = u32::from_le_bytes(bytes(source)?);
+    }
+    Some(numbers)
 }
 
 // Bytes that are read: as many as the count says.
@@ -26,12 +31,14 @@ pub fn answer_read<R: Read>(source: &mut R, out: &impl Print, count: u8) -> Opti
     Some(())
 }
 
+// By hand, here and below: this program alone reads them so, and the types are of other crates.
 fn request<R: Read>(source: &mut R) -> Option<Request> {
+    let [service, token, reply, tx] = numbers::<R, 4>(source)?;
     Some(Request {
-        service: number(source)?,
-        token: number(source)?,
-        reply: number(source)?,
-        tx: number(source)?,
+        service,
+        token,
+        reply,
+        tx,
     })
 }
 
@@ -44,26 +51,16 @@ pub fn answer_write<R: Read>(source: &mut R, out: &impl Print, room: u8) -> Opti
     Some(())
 }
 
-// Field by field, as a request and an answer are read: an array of six numbers would have to be taken apart again.
-fn call<R: Read>(source: &mut R) -> Option<Call> {
-    Some(Call {
-        clock: number(source)?,
-        party: number(source)?,
-        kind: number(source)?,
-        a: number(source)?,
-        b: number(source)?,
-        c: number(source)?,
-    })
-}
-
 fn answer<R: Read>(source: &mut R) -> Option<Answer> {
+    let code = i64::from_le_bytes(bytes(source)?);
+    let [value, event, token, service, tx] = numbers::<R, 5>(source)?;
     Some(Answer {
-        code: i64::from_le_bytes(bytes(source)?),
-        value: number(source)?,
-        event: number(source)?,
-        token: number(source)?,
-        service: number(source)?,
-        tx: number(source)?,
+        code,
+        value,
+        event,
+        token,
+        service,
+        tx,
     })
 }
 
@@ -72,7 +69,7 @@ pub fn answer_of<R: Read>(source: &mut R, out: &impl Print, count: u8) -> Option
     if count != 0 {
         return None;
     }
-    let asked = call(source)?;
+    let asked = Call::from(numbers(source)?);
     let answered = answer(source)?;
     let _ = show::of(out, asked, answered);
     Some(())

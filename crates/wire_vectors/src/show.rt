@@ -4,6 +4,7 @@ use rules::{Answer, Call};
 use std::io;
 use wire::Request;
 
+// By its fields: `Display` would be public in `wire`, with a contract of its own, for this program alone.
 fn request(out: &impl Print, r: Request) -> io::Result<()> {
     print!(out; " {} {} {} {}", r.service, r.token, r.reply, r.tx)
 }

@@ -1,23 +1,19 @@
 -- How one event adds to what a history shows, from the history statement's own definitions.
 -- Assumes nothing.
-use mathlib.Core.Path.{◌≡◌, refl, sym, ap, ◌∙◌, fun_ext}
-use mathlib.Core.Bool.{Bool, true, false, cond, not, ◌&&◌, ◌||◌}
-use mathlib.Core.List.{List, [], ◌∷◌}
-use Prim.Native.Nat.{ℕ, ◌≤◌, ◌<◌}
-use native.Mathlib.Omega.{arith}
-use lib.Dec.{eqb}
-use lib.IntN.{ℤ, pos}
-use borrow.Author.Tests.{eqb-true}
+use Rattle.std.proofs.Common.{◌≡◌, refl, sym, ap, ◌∙◌, Bool, true, false, cond, not, ◌&&◌}
+use Rattle.std.proofs.Common.{◌||◌, List, [], ◌∷◌, ℕ, ◌≤◌, ◌<◌, arith, eqb, ℤ, pos, eqb-true}
+use Rattle.std.proofs.Math.Path.{fun_ext}
+use Rattle.std.proofs.Math.Bool.{and-false, and-true, and_assoc, and_comm, or-true, or-false}
 use Rattle.rules.specs.Choice.{pick, same}
 use Rattle.rules.specs.declared.Call.{Call}
 use Rattle.rules.specs.declared.Link.{Link}
 use Rattle.rules.specs.declared.Party.{Party}
 use Rattle.rules.specs.History.{Event, some, of_kind, by, answered_by, with_value, with_event, accepted, replied, link_on, on, ends_in, up_to_start}
 use Rattle.rules.specs.History.{started_by, shown_owner, same_code, makes, is_link_of, serves, failed_end, disconnect, finishes}
-use Rattle.rules.proofs.Logic.{test, same_refl, same_ne, and_r, and_false, or_true, or_false, pick_yes, pick_no}
-use Rattle.rules.proofs.Logic.{Nz, and_yes, and_assoc, and_comm, cond_same, cond_of, cond_and, cond_not}
+use Rattle.rules.proofs.Logic.{test, same_refl, same_ne, and_r, pick_yes, pick_no}
+use Rattle.rules.proofs.Logic.{Nz, cond_same, cond_of, cond_and, cond_not}
 use Rattle.rules.proofs.AnswerCodes.{of_code}
-use Rattle.rules.proofs.History.Tells.{Tell, nothing, sent, given, made, taken, finished, disconnected, left, tell_of, ending_event, Valueless, can_start}
+use Rattle.rules.proofs.History.Tells.{Tell, made, taken, disconnected, tell_of, ending_event, Valueless, can_start}
 use Rattle.rules.proofs.History.Shows.{Shows, shows_of, Next, serves_after, is_made, is_finished, fails_now, disconnects_now}
 use Rattle.rules.proofs.History.Moves
 use Rattle.rules.proofs.History.Moves.{Move}
@@ -27,12 +23,7 @@ use Rattle.rules.proofs.History.World.{World}
 abbrev pub ToldUpTo : ℕ → Tell → Type 0
 ToldUpTo n (taken d) = d ≤ n
 ToldUpTo n (disconnected d) = d ≤ n
-ToldUpTo n nothing = Unit {0}
-ToldUpTo n (sent d) = Unit {0}
-ToldUpTo n (given d) = Unit {0}
-ToldUpTo n (made d) = Unit {0}
-ToldUpTo n (finished d) = Unit {0}
-ToldUpTo n (left bad) = Unit {0}
+ToldUpTo n _ = Unit {0}
 
 abbrev pub Bounds : ℕ → List Event → Type 0
 Bounds n [] = Unit {0}
@@ -41,12 +32,7 @@ Bounds n (e ∷ h) = ToldUpTo n (tell_of e) × Bounds n h
 pub told_grows : (n n' : ℕ) (t : Tell) → n ≤ n' → ToldUpTo n t → ToldUpTo n' t
 told_grows n n' (taken d) le b = omega arith
 told_grows n n' (disconnected d) le b = omega arith
-told_grows n n' nothing le b = b
-told_grows n n' (sent d) le b = b
-told_grows n n' (given d) le b = b
-told_grows n n' (made d) le b = b
-told_grows n n' (finished d) le b = b
-told_grows n n' (left bad) le b = b
+told_grows n n' _ le b = b
 
 pub bounds_grow : (n n' : ℕ) (h : List Event) → n ≤ n' → Bounds n h → Bounds n' h
 bounds_grow n n' [] le b = b
@@ -73,8 +59,8 @@ by_same o e = refl
 makes_tells : (e : Event) (d u : ℕ) → Nz u → makes u e && with_value d e ≡ is_made (tell_of e) d && same e.answer.tx u
 unfolding tell_of makes of_kind ends_in with_value same
 makes_tells e d u z = simp (cond_of (λ t. is_made t d), cond_same, cond_and) (test (eqb e.answer.tx u)
-    (λ y. let r : e.answer.tx ≡ u = eqb-true _ _ y in rw (y, r, z) (simp (and_yes, and_assoc)))
-    (λ n. rw n (simp and_false)))
+    (λ y. let r : e.answer.tx ≡ u = eqb-true _ _ y in rw (y, r, z) (simp (and-true, and_assoc)))
+    (λ n. rw n (simp and-false)))
 
 serves_tells : (e : Event) (f : ℕ → Bool) (h : List Event) (q : ℕ) → serves f (e ∷ h) q ≡ serves_after (tell_of e) (same e.call.party q) f (serves f h q)
 unfolding tell_of serves of_kind by same accepted answered_by
@@ -84,7 +70,7 @@ serves_tells e f h q = of_it e 14
     (λ y. rw y (simp after (leave-law (by q e) (accepted e) (serves f h q))))
     (λ n20. of_it e 21
     (λ y. rw y (simp after (leave-law (by q e) (accepted e) (serves f h q))))
-    (λ n21. rw (n14, n20, n21) (simp (after, cond_same, and_false)))))
+    (λ n21. rw (n14, n20, n21) (simp (after, cond_same, and-false)))))
   where
     after : (b : Bool) (s t : Tell) → serves_after (cond b s t) (eqb e.call.party q) f (serves f h q)
         ≡ cond b (serves_after s (eqb e.call.party q) f (serves f h q)) (serves_after t (eqb e.call.party q) f (serves f h q))
@@ -107,7 +93,7 @@ unfolding tell_of finishes of_kind on by same ending_event link_on replied accep
 finishes_tells e d o = of_it e 15
     (λ y.
     rw y
-    (simp (cond_of (λ t. is_finished t d), cond_and, or_false, and_yes) (and_comm (eqb (cond (eqb e.call.b 1 && replied e) e.answer.value e.call.a) d) (replied e))))
+    (simp (cond_of (λ t. is_finished t d), cond_and, or-false, and-true) (and_comm (eqb (cond (eqb e.call.b 1 && replied e) e.answer.value e.call.a) d) (replied e))))
     (λ n15. of_it e 17
     (λ y.
     rw y
@@ -119,13 +105,13 @@ finishes_tells e d o = of_it e 15
     (λ n18. rw (n15, n17, n18) (simp (cond_of (λ t. is_finished t d), cond_same)))))
   where
     unless : (a l o x : Bool) → (a ≡ true → x ≡ false) → l && (o && x) ≡ (not a && (x && l)) && o
-    unless true l o x e = rw (e refl) (simp and_false)
-    unless false l o true e = rw and_yes
-    unless false l o false e = simp and_false
+    unless true l o x e = rw (e refl) (simp and-false)
+    unless false l o true e = rw and-true
+    unless false l o false e = simp and-false
 
     -- SENDONLY is no ending event
     given-first : answered_by (pos 29) e && with_event 32 e ≡ true → ending_event e ≡ false
-    given-first a = let r : e.answer.event ≡ 32 = eqb-true _ _ (and_r (answered_by (pos 29) e) _ a) in unfold ending_event with_event in rw (r, and_false)
+    given-first a = let r : e.answer.event ≡ 32 = eqb-true _ _ (and_r (answered_by (pos 29) e) _ a) in unfold ending_event with_event in rw (r, and-false)
 
     zero-code : (z : ℤ) → same_code (pos 0) z ≡ true → same_code (pos 29) z ≡ false
     zero-code z e = of_code (λ x. same_code (pos 29) x ≡ false) (pos 0) z refl e
@@ -146,13 +132,7 @@ fails_tells e nv b = of_it e 20
 module _ (n : ℕ) (f g : ℕ → Bool) (alike : (d : ℕ) → d ≤ n → f d ≡ g d) where
   after_like : (t : Tell) (mine b : Bool) → ToldUpTo n t → serves_after t mine f b ≡ serves_after t mine g b
   after_like (taken d) mine b le = rw (alike d le)
-  after_like nothing mine b le = refl
-  after_like (sent d) mine b le = refl
-  after_like (given d) mine b le = refl
-  after_like (made d) mine b le = refl
-  after_like (finished d) mine b le = refl
-  after_like (disconnected d) mine b le = refl
-  after_like (left bad) mine b le = refl
+  after_like _ mine b le = refl
 
   pub serves_like : (h : List Event) → Bounds n h → (q : ℕ) → serves f h q ≡ serves g h q
   unfolding serves
@@ -173,45 +153,21 @@ module _ (n : ℕ) (f g : ℕ → Bool) (alike : (d : ℕ) → d ≤ n → f d �
     where
       step : (t : Tell) → ToldUpTo n t → disconnects_now t f ≡ disconnects_now t g
       step (disconnected d) le = alike d le
-      step (left bad) le = refl
-      step nothing le = refl
-      step (sent d) le = refl
-      step (given d) le = refl
-      step (made d) le = refl
-      step (finished d) le = refl
-      step (taken d) le = refl
+      step _ le = refl
 
 -- a link is made with a number above n
 abbrev pub MadeAbove : ℕ → Tell → Type 0
 MadeAbove n (made d) = n < d
-MadeAbove n nothing = Unit {0}
-MadeAbove n (sent d) = Unit {0}
-MadeAbove n (given d) = Unit {0}
-MadeAbove n (taken d) = Unit {0}
-MadeAbove n (finished d) = Unit {0}
-MadeAbove n (disconnected d) = Unit {0}
-MadeAbove n (left bad) = Unit {0}
+MadeAbove n _ = Unit {0}
 
 none_made : (n : ℕ) (t : Tell) → MadeAbove n t → (d : ℕ) → d ≤ n → is_made t d ≡ false
 none_made n (made x) above d le = same_ne x d (omega arith)
-none_made n nothing above d le = refl
-none_made n (sent x) above d le = refl
-none_made n (given x) above d le = refl
-none_made n (taken x) above d le = refl
-none_made n (finished x) above d le = refl
-none_made n (disconnected x) above d le = refl
-none_made n (left bad) above d le = refl
+none_made n _ above d le = refl
 
 -- a disconnect makes no link
 disc_made : (t : Tell) (y : Bool) (f : ℕ → Bool) → disconnects_now t (λ d. (is_made t d && y) || f d) ≡ disconnects_now t f
-disc_made nothing y f = refl
-disc_made (sent x) y f = refl
-disc_made (given x) y f = refl
-disc_made (made x) y f = refl
-disc_made (taken x) y f = refl
-disc_made (finished x) y f = refl
 disc_made (disconnected x) y f = refl
-disc_made (left bad) y f = refl
+disc_made _ y f = refl
 
 -- ---- the event e, which tells t, adds this to the history h
 module _ (n : ℕ) (h : List Event) (e : Event) (t : Tell) (bounds : Bounds n h) (tells : tell_of e ≡ t) (above : MadeAbove n t)
@@ -252,8 +208,8 @@ module _ (n : ℕ) (h : List Event) (e : Event) (t : Tell) (bounds : Bounds n h)
     serves' = λ q f. rw (← tells) (serves_tells e f h q);
     link_of' = link_next;
     made_by' = λ d u o z. rw (← and_assoc, makes_tells e d u z, tells, by_same o e);
-    finishes' = λ d fi. rw (finishes_tells e d e.call.party, tells, fi, by_same e.call.party e, same_refl, or_true);
-    finished' = λ d o fi. rw (fi, or_true);
+    finishes' = λ d fi. rw (finishes_tells e d e.call.party, tells, fi, by_same e.call.party e, same_refl, or-true);
+    finished' = λ d o fi. rw (fi, or-true);
     unfinished' = λ d o un. rw (finishes_tells e d o, tells, un);
     failed' = failed_next;
     disc' = disc_next;
@@ -284,30 +240,9 @@ module _ {c : Call} {p n m : ℕ} {P : ℕ → Party} {L : ℕ → Link} {n' m' 
 
   pub move_above : {t : Tell} → Move c p n m P L n' m' P' L' t → MadeAbove n t
   move_above (Moves.makes _ _ _ _ _) = omega arith
-  move_above (Moves.quiet _ _ _ _) = tt
-  move_above (Moves.sends _ _ _) = tt
-  move_above (Moves.grants _ _ _) = tt
-  move_above (Moves.finishes _ _ _) = tt
-  move_above (Moves.cancels _ _ _) = tt
-  move_above (Moves.disconnects _ _ _) = tt
-  move_above (Moves.leaves _ _ _ _) = tt
-  move_above (Moves.ends _ _) = tt
-  move_above (Moves.begins _ _ _ _ _) = tt
-  move_above (Moves.renews _ _ _ _ _ _ _) = tt
-  move_above (Moves.makes_free _ _ _) = tt
-  move_above (Moves.takes _ _ _) = tt
+  move_above _ = tt
 
   pub move_told : {t : Tell} {v : Shows} → World n m P L v → Move c p n m P L n' m' P' L' t → ToldUpTo n t
   move_told w (Moves.takes _ d x) = w.upper d x.there
   move_told w (Moves.disconnects _ d x) = w.upper d x.there
-  move_told w (Moves.quiet _ _ _ _) = tt
-  move_told w (Moves.sends _ _ _) = tt
-  move_told w (Moves.grants _ _ _) = tt
-  move_told w (Moves.finishes _ _ _) = tt
-  move_told w (Moves.cancels _ _ _) = tt
-  move_told w (Moves.leaves _ _ _ _) = tt
-  move_told w (Moves.ends _ _) = tt
-  move_told w (Moves.begins _ _ _ _ _) = tt
-  move_told w (Moves.renews _ _ _ _ _ _ _) = tt
-  move_told w (Moves.makes _ _ _ _ _) = tt
-  move_told w (Moves.makes_free _ _ _) = tt
+  move_told w _ = tt

@@ -1,11 +1,8 @@
 -- The commit rule and the rule that nobody else is at work, at one event, from the invariant.
 -- Assumes nothing.
-use mathlib.Core.Path.{◌≡◌, refl, sym, ◌∙◌}
-use mathlib.Core.Bool.{Bool, true, false, not, ◌&&◌, ◌||◌}
-use mathlib.Core.List.{List, [], ◌∷◌}
-use Prim.Native.Nat.{ℕ}
-use lib.Dec.{eqb}
-use borrow.Author.Tests.{eqb-true, eq-eqb}
+use Rattle.std.proofs.Common.{◌≡◌, refl, sym, ◌∙◌, Bool, true, false, not, ◌&&◌, ◌||◌, List, [], ◌∷◌, ℕ, eqb, eqb-true, eq-eqb}
+use Rattle.std.proofs.lemmas.Bool.{and_from, not-true}
+use Rattle.std.proofs.Math.Bool.{or-true}
 use Rattle.rules.specs.Choice.{same}
 use Rattle.rules.specs.Record.{is_attached, is_rollback_only}
 use Rattle.rules.specs.History.{Event, some, of_kind, by, with_value, past21, up_to_start, shown_owner, latest_tx, tx_at}
@@ -13,7 +10,7 @@ use Rattle.rules.specs.History.{is_owners_commit, committed, makes, is_link_of, 
 use Rattle.rules.specs.History.{finishes, unfinished, stands_against, reason_against, others_at_work, commit_rule, alone_rule}
 use Rattle.rules.specs.declared.Link.{Link}
 use Rattle.rules.specs.declared.Party.{Party}
-use Rattle.rules.proofs.Logic.{pick_true, pick_false, test, not_both, same_refl, same_true, and_l, and_r, and_true, or_true, not_true, beq_refl, Nz, not_or}
+use Rattle.rules.proofs.Logic.{pick_true, pick_false, test, not_both, same_refl, same_true, and_l, and_r, beq_refl, Nz, not_or}
 use Rattle.rules.proofs.Fine.{tx_p}
 use Rattle.rules.proofs.History.Shows.{shows_of}
 use Rattle.rules.proofs.History.World.{World}
@@ -24,7 +21,7 @@ unfolding some
 some_find f [] y = not_both y refl
 some_find f (e ∷ h) y = test (f e)
     (λ t. (e, t, λ g k. rw k))
-    (λ n. let r = some_find f h (rw n at y) in (r.0, r.1, λ g k. rw (r.2 g k, or_true)))
+    (λ n. let r = some_find f h (rw n at y) in (r.0, r.1, λ g k. rw (r.2 g k, or-true)))
 
 -- what the rules answer to a commit of a transaction that the caller owns
 pub record Answered (P : ℕ → Party) (L : ℕ → Link) (h : List Event) (e : Event) : Type 0 where
@@ -73,15 +70,15 @@ module _ {n m : ℕ} {P : ℕ → Party} {L : ℕ → Link} (h : List Event) (e 
         let vd : r.0.answer.value ≡ o.0 = eqb-true _ _ (and_l _ _ (and_r (makes (tx_at h e) r.0) _ r.1)) in
         let pd : r.0.call.party ≡ (L o.0).originator = eqb-true _ _ (and_r (with_value o.0 r.0) _ (and_r (makes (tx_at h e) r.0) _ r.1)) in
         r.2 (λ x. makes (tx_at h e) x && not (some (finishes x.answer.value x.call.party) h))
-        (and_true _ _ (and_l (makes (tx_at h e) r.0) _ r.1) (rw (vd, pd, w.unfinished o.0 th)))
+        (and_from _ _ (and_l (makes (tx_at h e) r.0) _ r.1) (rw (vd, pd, w.unfinished o.0 th)))
 
     unfinished_open : is_rollback_only (P e.call.party) ≡ false → unfinished h (tx_at h e) ≡ true → a.open_end ≡ true
     unfolding unfinished shows_of by with_value
     unfinished_open un y = let r = some_find _ h y in
         keeps_open un r.0.answer.value r.0.call.party
         (r.2 (λ x. makes (tx_at h e) x && (with_value r.0.answer.value x && by r.0.call.party x))
-        (and_true _ _ (and_l (makes (tx_at h e) r.0) _ r.1) (and_true _ _ (eq-eqb r.0.answer.value _ refl) (eq-eqb r.0.call.party _ refl))))
-        (not_true _ (and_r (makes (tx_at h e) r.0) _ r.1))
+        (and_from _ _ (and_l (makes (tx_at h e) r.0) _ r.1) (and_from _ _ (eq-eqb r.0.answer.value _ refl) (eq-eqb r.0.call.party _ refl))))
+        (not-true _ (and_r (makes (tx_at h e) r.0) _ r.1))
 
     exactly : committed e ≡ not (reason_against h e (tx_at h e))
     unfolding reason_against
@@ -96,10 +93,8 @@ module _ {n m : ℕ} {P : ℕ → Party} {L : ℕ → Link} (h : List Event) (e 
         same_tests false false f g = refl
 
         law : (f d l o u s : Bool) → (f || d ≡ false → o ≡ u) → (not (f || d) && (not l && not o)) && not s ≡ not (f || (d || (l || (u || s))))
-        law true d l o u s k = refl
-        law false true l o u s k = refl
-        law false false true o u s k = refl
         law false false false o u s k = rw (k refl) (sym (not_or u s))
+        law _ _ _ o u s k = refl
 
     nobody : committed e ≡ true → others_at_work h (tx_at h e) e.call.party ≡ false
     unfolding others_at_work shows_of
@@ -107,13 +102,13 @@ module _ {n m : ℕ} {P : ℕ → Party} {L : ℕ → Link} (h : List Event) (e 
         (λ y. let r = some_find _ h y in
         let q = r.0.call.party in
         let k = sym (w.serve q (is_link_of h (tx_at h e))) ∙ and_r (not (by e.call.party r.0)) _ r.1 in
-        let ns : Nz (P q).served = not_true _ (and_l _ _ k) in
+        let ns : Nz (P q).served = not-true _ (and_l _ _ k) in
         let th = w.there_work (P q).served (w.works q ns) in
         let tx : (L (P q).served).tx ≡ tx_at h e = same_true _ _ (sym (w.of_tx (P q).served th (tx_at h e) z) ∙ and_r (not (same (P q).served 0)) _ k) in
         let b = and_l _ (not a.against) (sym a.code ∙ c) in
-        let un = not_true _ (and_l (not (is_rollback_only (P e.call.party))) _ b) in
+        let un = not-true _ (and_l (not (is_rollback_only (P e.call.party))) _ b) in
         not_both (keeps_open un (P q).served _ (there_made (P q).served th tx) (w.unfinished (P q).served th))
-        (not_true _ (and_r (not a.late) _ (and_r (not (is_rollback_only (P e.call.party))) _ b))))
+        (not-true _ (and_r (not a.late) _ (and_r (not (is_rollback_only (P e.call.party))) _ b))))
         (λ n. n)
 
   pub commit_holds : latest_tx h e.call.party ≡ tx_p P L e.call.party
@@ -124,7 +119,7 @@ module _ {n m : ℕ} {P : ℕ → Party} {L : ℕ → Link} (h : List Event) (e 
       (λ y.
       let y' = and_r (of_kind 4 e) _ y in
       let y'' = and_r (past21 e) _ y' in
-      let z : Nz (tx_at h e) = not_true _ (and_l (not (eqb (tx_at h e) 0)) _ y'') in
+      let z : Nz (tx_at h e) = not-true _ (and_l (not (eqb (tx_at h e) 0)) _ y'') in
       let o = owns latest z (and_r (not (eqb (tx_at h e) 0)) _ y'') in
       let a = answers (and_l (of_kind 4 e) _ y) (and_l (past21 e) _ y') z o in
       (rw y (beq_refl _ _ (exactly z o a)), rw y (test (committed e) (λ c. rw (c, nobody z o a c)) (λ n. rw n))))

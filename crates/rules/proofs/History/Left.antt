@@ -1,30 +1,16 @@
 -- Laws of what is left of a link: what it still is, it was before.
 -- Assumes nothing.
-use mathlib.Core.Path.{◌≡◌, refl, ap, ◌∙◌}
-use mathlib.Core.Bool.{true, false, ◌||◌}
-use Prim.Native.Nat.{ℕ, ◌≤◌}
-use native.Mathlib.Omega.{arith}
+use Rattle.std.proofs.Common.{◌≡◌, refl, ap, ◌∙◌, true, false, ◌||◌, ℕ, ◌≤◌, arith, rules}
+use Rattle.std.proofs.Math.Bool.{or-true}
 use Rattle.rules.specs.Choice.{same}
 use Rattle.rules.specs.Record.{is_attached, is_waiting, is_working, is_returned, is_ending}
-use Rattle.rules.specs.Sound.{link_good}
 use Rattle.rules.specs.declared.Link.{Link}
-use Rattle.rules.proofs.Logic.{Nz, same_refl, same_true, test, not_both, or_cases, or_true, by_number}
+use Rattle.rules.proofs.Logic.{Nz, same_refl, same_true, test, not_both, or_cases, by_number}
 use Rattle.rules.proofs.Fine.{no_link}
 use Rattle.rules.proofs.History.Moves.{is_whole, Like, Left, alike, gone, shut, back}
 
 pub like_refl : {l l' : Link} → l' ≡ l → Like l l'
-like_refl e = record {
-  number' = ap (λ x. x.number) e;
-  kind' = ap (λ x. x.kind) e;
-  originator' = ap (λ x. x.originator) e;
-  attached' = ap (λ x. x.attached) e;
-  tx' = ap (λ x. x.tx) e;
-  state' = ap (λ x. x.state) e;
-  server' = ap (λ x. x.server) e;
-  outcome' = ap (λ x. x.outcome) e;
-  whole' = ap (λ x. is_whole x) e;
-  good' = λ g. ap (λ x. link_good x) e ∙ g;
-}
+like_refl e = search rules
 
 pub left_refl : {l l' : Link} → l' ≡ l → Left l l'
 left_refl e = alike (like_refl e) (ap (λ x. x.sender) e)
@@ -68,7 +54,7 @@ left_waiting (shut e) z = rw e.state' at z
 left_waiting (back e) z = not_both (rw e.state' at z) refl
 
 pub left_live : {l l' : Link} → Left l l' → is_attached l' || is_waiting l' ≡ true → is_attached l || is_waiting l ≡ true
-left_live {l} {l'} x o = or_cases (is_attached l') (is_waiting l') o (λ z. rw (left_open x z).0) (λ z. rw (left_waiting x z, or_true))
+left_live {l} {l'} x o = or_cases (is_attached l') (is_waiting l') o (λ z. rw (left_open x z).0) (λ z. rw (left_waiting x z, or-true))
 
 -- what a working one keeps
 pub left_working : {l l' : Link} → Left l l' → is_working l' ≡ true

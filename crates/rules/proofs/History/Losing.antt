@@ -1,9 +1,6 @@
 -- The invariant where links only lose: it is rebuilt from the few facts that differ from move to move.
 -- Assumes nothing.
-use mathlib.Core.Path.{◌≡◌, sym, ◌∙◌}
-use mathlib.Core.Bool.{Bool, true, false, not, ◌&&◌, ◌||◌}
-use Prim.Native.Nat.{ℕ, ◌<◌}
-use native.Mathlib.Omega.{arith}
+use Rattle.std.proofs.Common.{◌≡◌, sym, ◌∙◌, Bool, true, false, not, ◌&&◌, ◌||◌, ℕ, ◌<◌, arith}
 use Rattle.rules.specs.Choice.{same}
 use Rattle.rules.specs.Record.{is_attached, is_waiting, is_working, is_rollback_only}
 use Rattle.rules.specs.declared.Link.{Link}

@@ -1,10 +1,7 @@
 -- What a call can do to parties and links, as far as soundness and the history statement are concerned: the moves.
 -- A record is seen here as two functions, P : party ↦ its record and L : number ↦ its link (no_link where there is none).
 -- Assumes nothing.
-use mathlib.Core.Path.{◌≡◌}
-use mathlib.Core.Bool.{Bool, true, false, ◌||◌}
-use Prim.Native.Nat.{ℕ, suc}
-use lib.Dec.{eqb}
+use Rattle.std.proofs.Common.{◌≡◌, Bool, true, false, ◌||◌, ℕ, suc, eqb}
 use Rattle.rules.specs.Choice.{same}
 use Rattle.rules.specs.Record.{is_conversation, is_attached, is_waiting, is_working, is_ending, is_rollback_only, working}
 use Rattle.rules.specs.Sound.{link_good}

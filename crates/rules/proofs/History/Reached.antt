@@ -1,12 +1,7 @@
 -- One call keeps the whole invariant of demand 3, and the statement holds at it.
 -- Assumes nothing.
-use mathlib.Core.Path.{◌≡◌, refl, sym, ap, ◌∙◌}
-use mathlib.Core.Bool.{Bool, true, false, not, ◌&&◌}
-use mathlib.Core.List.{List, ◌∷◌}
-use Prim.Native.Nat.{ℕ, suc, ◌<◌}
-use native.Mathlib.Omega.{arith}
-use lib.Dec.{eqb}
-use borrow.Author.Tests.{eqb-true}
+use Rattle.std.proofs.Common.{◌≡◌, refl, sym, ap, ◌∙◌, Bool, true, false, not, ◌&&◌, List, ◌∷◌, ℕ, suc, ◌<◌, arith, eqb, eqb-true}
+use Rattle.std.proofs.lemmas.Bool.{and_from}
 use Rattle.rules.specs.Choice.{pick}
 use Rattle.rules.specs.Record.{is_attached, is_rollback_only, party, live, link_of}
 use Rattle.rules.specs.Transaction.{served_tx, tx_of, late, is_owner, is_open_of, can_commit}
@@ -20,7 +15,7 @@ use Rattle.rules.specs.History.{stands_against, committed, sender_rule, commit_r
 use Rattle.rules.specs.declared.Call.{Call}
 use Rattle.rules.specs.declared.Monitor.{Monitor}
 use Rattle.rules.specs.declared.Ruled.{Ruled}
-use Rattle.rules.proofs.Logic.{Nz, test, same_refl, same_true, and_l, and_r, and_true}
+use Rattle.rules.proofs.Logic.{Nz, test, same_refl, same_true, and_l, and_r}
 use Rattle.rules.proofs.Fine.{no_link, tx_p, look, Fine}
 use Rattle.rules.proofs.Looks.{tx_of_tx_p, any_some, any_one, link_low}
 use Rattle.rules.proofs.Parties.{is_owner_only}
@@ -170,7 +165,7 @@ module _ (m : Monitor) (h : List Event) (i : Reached m h) (c : Call) (kind : is_
 
     opened : (d : ℕ) → is_attached (look d (live m₀)) ≡ true → (look d (live m₀)).tx ≡ t → open_end ≡ true
     unfolding open_end
-    opened d a x = any_one (is_open_of t) (no_open t) d (live m₀) (unfold is_open_of in and_true _ _ a (rw x (same_refl t)))
+    opened d a x = any_one (is_open_of t) (no_open t) d (live m₀) (unfold is_open_of in and_from _ _ a (rw x (same_refl t)))
 
     code : committed e ≡ (not (is_rollback_only (party m₀ c.party)) && (not (late m₀.clock (party m₀ c.party)) && not open_end)) && not (any_of is_against (party m₀ c.party).reports)
     unfolding open_end can_commit

@@ -1,15 +1,12 @@
 -- Who may not send: what a history shows of sends and of SENDONLY, and the sender rule from it.
 -- Assumes nothing.
-use mathlib.Core.Path.{◌≡◌, refl, sym, ap}
-use mathlib.Core.Bool.{Bool, true, false, cond, not, ◌&&◌, ◌||◌}
-use mathlib.Core.List.{List, [], ◌∷◌}
-use Prim.Native.Nat.{ℕ}
-use lib.IntN.{pos}
-use borrow.Author.Tests.{eqb-true}
+use Rattle.std.proofs.Common.{◌≡◌, refl, sym, ap, Bool, true, false, cond, not, ◌&&◌, ◌||◌, List, [], ◌∷◌, ℕ, pos, eqb-true, rules}
+use Rattle.std.proofs.Math.Bool.{and-false, and-true, or-true}
+use Rattle.std.proofs.lemmas.Bool.{not-true}
 use Rattle.rules.specs.Choice.{same}
 use Rattle.rules.specs.History.{Event, some, of_kind, by, answered_by, with_event, accepted, replied, link_on, on, flag2}
 use Rattle.rules.specs.History.{ends_in, is_send, different_ends, given_send_only, sends_apart, sender_rule}
-use Rattle.rules.proofs.Logic.{test, not_both, and_false, or_l, or_r, or_true, not_true, and_yes}
+use Rattle.rules.proofs.Logic.{test, not_both, or_l, or_r}
 use Rattle.rules.proofs.History.Tells.{Tell, nothing, sent, given, made, taken, finished, disconnected, left, ending_event, tell_of}
 
 -- an accepted send on d
@@ -32,8 +29,8 @@ module _ (e : Event) (s : is_send e ≡ true) where
   unfolding sends_apart some barred
   apart [] between z = refl
   apart (x ∷ h) between z = test (some (given_send_only e.call.party (link_on e)) between)
-      (λ g. rw (g, or_true) (apart h (x ∷ between) (rw (g, or_true))))
-      (λ g. let b = not_true _ (rw g at z) in
+      (λ g. rw (g, or-true) (apart h (x ∷ between) (rw (g, or-true))))
+      (λ g. let b = not-true _ (rw g at z) in
       let n = apart_step x (or_l _ _ b) in
       let r = or_r (is_send x && (on (link_on e) x && not (by e.call.party x))) _ b in
       rw n (apart h (x ∷ between) (test (given_send_only e.call.party (link_on e) x) (λ y. rw y) (λ y. rw (y, g) (ap not (rw y at r))))))
@@ -41,7 +38,7 @@ module _ (e : Event) (s : is_send e ≡ true) where
 silent : (e : Event) → is_send e ≡ false → (h between : List Event) → sends_apart e between h ≡ true
 unfolding sends_apart different_ends
 silent e s [] between = refl
-silent e s (x ∷ h) between = rw (s, and_false) (silent e s h (x ∷ between))
+silent e s (x ∷ h) between = rw (s, and-false) (silent e s h (x ∷ between))
 
 pub sender_rule_lem : (h : List Event) (e : Event) → (is_send e ≡ true → barred h e.call.party (link_on e) ≡ false) → sender_rule h e ≡ true
 unfolding sender_rule some
@@ -50,23 +47,11 @@ sender_rule_lem h e f = test (is_send e) (λ s. apart e s h [] (rw (f s))) (λ s
 -- ---- what an event tells of sends
 abbrev pub sends_at : Tell → ℕ → Bool
 sends_at (sent x) d = same x d
-sends_at nothing d = false
-sends_at (given x) d = false
-sends_at (made x) d = false
-sends_at (taken x) d = false
-sends_at (finished x) d = false
-sends_at (disconnected x) d = false
-sends_at (left bad) d = false
+sends_at _ d = false
 
 abbrev pub gives_at : Tell → ℕ → Bool
 gives_at (given x) d = same x d
-gives_at nothing d = false
-gives_at (sent x) d = false
-gives_at (made x) d = false
-gives_at (taken x) d = false
-gives_at (finished x) d = false
-gives_at (disconnected x) d = false
-gives_at (left bad) d = false
+gives_at _ d = false
 
 -- a test of what is told that fails at all but a send and SENDONLY
 record Elsewhere (f : Tell → Bool) : Type 0 where
@@ -110,10 +95,10 @@ tell_18 e k = rw (eqb-true e.call.kind 18 k)
 
 module _ (e : Event) (d : ℕ) where
   sends_else : Elsewhere (λ t. sends_at t d)
-  sends_else = record { nothing' = refl; made' = λ _. refl; taken' = λ _. refl; finished' = λ _. refl; disconnected' = λ _. refl; left' = λ _. refl }
+  sends_else = search rules
 
   gives_else : Elsewhere (λ t. gives_at t d)
-  gives_else = record { nothing' = refl; made' = λ _. refl; taken' = λ _. refl; finished' = λ _. refl; disconnected' = λ _. refl; left' = λ _. refl }
+  gives_else = search rules
 
   pub tells_send : is_send e && on d e ≡ sends_at (tell_of e) d
   unfolding is_send on same
@@ -127,6 +112,6 @@ module _ (e : Event) (d : ℕ) where
   tells_given = test (of_kind 18 e)
       (λ k.
       rw (k, tell_18 e k)
-      (test (answered_by (pos 29) e && with_event 32 e) (λ a. rw a (and_yes _)) (λ a. rw (a, and_false) (sym (ended (λ t. gives_at t d) gives_else e)))))
+      (test (answered_by (pos 29) e && with_event 32 e) (λ a. rw a (and-true _)) (λ a. rw (a, and-false) (sym (ended (λ t. gives_at t d) gives_else e)))))
       (λ k. rw k (sym (elsewhere (λ t. gives_at t d) gives_else e
       (λ _. choice (λ t. gives_at t d) gives_else (accepted e) _ _ (λ _. refl) (ended (λ t. gives_at t d) gives_else e)) (λ y. not_both y k))))

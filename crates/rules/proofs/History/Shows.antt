@@ -1,13 +1,10 @@
 -- What a history shows of links and transactions, as functions, and how one event adds to it.
 -- Assumes nothing.
-use mathlib.Core.Path.{◌≡◌}
-use mathlib.Core.Bool.{Bool, true, false, not, ◌&&◌, ◌||◌}
-use mathlib.Core.List.{List}
-use Prim.Native.Nat.{ℕ}
+use Rattle.std.proofs.Common.{◌≡◌, Bool, true, false, not, ◌&&◌, ◌||◌, List, ℕ}
 use Rattle.rules.specs.Choice.{pick, same}
 use Rattle.rules.specs.History.{Event, some, by, with_value, ends_in, shown_owner, makes, is_link_of, serves, failed_end, disconnect, finishes}
 use Rattle.rules.proofs.Logic.{Nz}
-use Rattle.rules.proofs.History.Tells.{Tell, nothing, sent, given, made, taken, finished, disconnected, left}
+use Rattle.rules.proofs.History.Tells.{Tell, made, taken, finished, disconnected, left}
 
 pub record Shows : Type 0 where
   -- the party serves a link that passes the test
@@ -43,53 +40,24 @@ shows_of h =
 abbrev pub serves_after : Tell → Bool → (ℕ → Bool) → Bool → Bool
 serves_after (taken d) mine f b = (mine && f d) || b
 serves_after (left bad) mine f b = not mine && b
-serves_after nothing mine f b = b
-serves_after (sent d) mine f b = b
-serves_after (given d) mine f b = b
-serves_after (made d) mine f b = b
-serves_after (finished d) mine f b = b
-serves_after (disconnected d) mine f b = b
+serves_after _ mine f b = b
 
 -- the new link, as a test of d
 abbrev pub is_made : Tell → ℕ → Bool
 is_made (made x) d = same x d
-is_made nothing d = false
-is_made (sent x) d = false
-is_made (given x) d = false
-is_made (taken x) d = false
-is_made (finished x) d = false
-is_made (disconnected x) d = false
-is_made (left bad) d = false
+is_made _ d = false
 
 abbrev pub is_finished : Tell → ℕ → Bool
 is_finished (finished x) d = same x d
-is_finished nothing d = false
-is_finished (sent x) d = false
-is_finished (given x) d = false
-is_finished (made x) d = false
-is_finished (taken x) d = false
-is_finished (disconnected x) d = false
-is_finished (left bad) d = false
+is_finished _ d = false
 
 abbrev pub fails_now : Tell → Bool → Bool
 fails_now (left bad) b = bad && b
-fails_now nothing b = false
-fails_now (sent x) b = false
-fails_now (given x) b = false
-fails_now (made x) b = false
-fails_now (taken x) b = false
-fails_now (finished x) b = false
-fails_now (disconnected x) b = false
+fails_now _ b = false
 
 abbrev pub disconnects_now : Tell → (ℕ → Bool) → Bool
 disconnects_now (disconnected x) f = f x
-disconnects_now nothing f = false
-disconnects_now (sent x) f = false
-disconnects_now (given x) f = false
-disconnects_now (made x) f = false
-disconnects_now (taken x) f = false
-disconnects_now (finished x) f = false
-disconnects_now (left bad) f = false
+disconnects_now _ f = false
 
 -- an event that tells t, by party p, with an answer that ends in x, adds this; `starts`: it is a 3, 4 or 5
 pub record Next (t : Tell) (p x : ℕ) (starts : Bool) (v v' : Shows) : Type 0 where

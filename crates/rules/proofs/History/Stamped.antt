@@ -1,12 +1,10 @@
 -- The invariant and an answer's last field: a transaction's number that is not new shows nothing new.
 -- Assumes nothing.
-use mathlib.Core.Path.{◌≡◌, refl, sym, ap, ◌∙◌}
-use mathlib.Core.Bool.{Bool, true, false}
-use Prim.Native.Nat.{ℕ, ◌≤◌, ◌<◌}
-use native.Mathlib.Omega.{arith}
+use Rattle.std.proofs.Common.{◌≡◌, refl, sym, ap, ◌∙◌, Bool, true, false, ℕ, ◌≤◌, ◌<◌, arith, rules}
+use Rattle.std.proofs.Math.Bool.{or-true}
 use Rattle.rules.specs.declared.Link.{Link}
 use Rattle.rules.specs.declared.Party.{Party}
-use Rattle.rules.proofs.Logic.{Nz, pick_true, same_refl, same_true, same_ne, by_test, or_true, above_nz}
+use Rattle.rules.proofs.Logic.{Nz, pick_true, same_refl, same_true, same_ne, by_test, above_nz}
 use Rattle.rules.proofs.Fine.{tx_p}
 use Rattle.rules.proofs.History.Tells.{Tell, nothing, sent, given}
 use Rattle.rules.proofs.History.Moves.{Sane}
@@ -82,24 +80,14 @@ agrees {m} {P} {L} w a = record {
 -- ---- an event whose answer ends in the caller's transaction, which is not new
 -- what v' shows, with the owners that v shows
 abbrev pub unstamped : Shows → Shows → Shows
-unstamped v v' =
-    record {
-      serves = v'.serves;
-      link_of = v'.link_of;
-      made_by = v'.made_by;
-      finished = v'.finished;
-      failed = v'.failed;
-      disc = v'.disc;
-      owner = v.owner;
-      seen = v.seen;
-    }
+unstamped v v' = record v' { owner = v.owner; seen = v.seen }
 
 module _ {t : Tell} {p x : ℕ} {starts : Bool} {v v' : Shows} (k : Next t p x starts v v') where
   next_owner : (u q : ℕ) → Nz u → v.seen u ≡ true → v'.owner u q ≡ v.owner u q
   next_owner u q z s = k.owner' u q z ∙ pick_true _ _ _ s
 
   next_seen : (u : ℕ) → v.seen u ≡ true → v'.seen u ≡ true
-  next_seen u s = k.seen' u ∙ rw (s, or_true)
+  next_seen u s = k.seen' u ∙ rw (s, or-true)
 
   next_unseen : (m u : ℕ) → x ≤ m → m < u → v'.seen u ≡ v.seen u
   next_unseen m u le b = k.seen' u ∙ rw (same_ne x u (omega arith))
@@ -126,13 +114,13 @@ pub record Plain (t : Tell) : Type 0 where
   pub disc' : (f : ℕ → Bool) → disconnects_now t f ≡ false
 
 pub plain_nothing : Plain nothing
-plain_nothing = record { serves' = λ _ _ _. refl; made' = λ _. refl; finished' = λ _. refl; failed' = λ _. refl; disc' = λ _. refl }
+plain_nothing = search rules
 
 pub plain_sent : (d : ℕ) → Plain (sent d)
-plain_sent d = record { serves' = λ _ _ _. refl; made' = λ _. refl; finished' = λ _. refl; failed' = λ _. refl; disc' = λ _. refl }
+plain_sent d = search rules
 
 pub plain_given : (d : ℕ) → Plain (given d)
-plain_given d = record { serves' = λ _ _ _. refl; made' = λ _. refl; finished' = λ _. refl; failed' = λ _. refl; disc' = λ _. refl }
+plain_given d = search rules
 
 -- the answer ends in a transaction that is not new, or in none
 pub plainly_old : {t : Tell} {p x n m : ℕ} {starts : Bool} {v v' : Shows} {P : ℕ → Party} {L : ℕ → Link}

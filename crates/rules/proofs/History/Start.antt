@@ -1,9 +1,6 @@
 -- The invariant at the start: fresh parties, no links and an empty history.
 -- Assumes nothing.
-use mathlib.Core.Path.{◌≡◌, refl}
-use mathlib.Core.List.{[]}
-use Prim.Native.Nat.{ℕ}
-use native.Mathlib.Omega.{arith}
+use Rattle.std.proofs.Common.{◌≡◌, refl, [], ℕ, arith}
 use Rattle.rules.specs.Record.{fresh_party}
 use Rattle.rules.specs.History.{some, up_to_start, started_by, shown_owner, is_link_of, serves, failed_end, disconnect}
 use Rattle.rules.specs.declared.Link.{Link}

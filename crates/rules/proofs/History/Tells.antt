@@ -1,10 +1,6 @@
 -- What one call and its answer tell, by the history statement's own terms.
 -- Assumes nothing.
-use mathlib.Core.Path.{◌≡◌}
-use mathlib.Core.Bool.{Bool, true, false, cond, not, ◌&&◌, ◌||◌}
-use Prim.Native.Nat.{ℕ}
-use lib.Dec.{eqb}
-use lib.IntN.{pos}
+use Rattle.std.proofs.Common.{◌≡◌, Bool, true, false, cond, not, ◌&&◌, ◌||◌, ℕ, eqb, pos}
 use Rattle.rules.specs.History.{Event, of_kind, answered_by, with_value, with_event, accepted, replied, link_on, flag2, ends_in}
 use Rattle.rules.specs.declared.Call.{Call}
 

@@ -1,13 +1,7 @@
 -- Demand 3: the history statement holds of every history from a fresh monitor.
 -- Assumes nothing.
-use mathlib.Core.Path.{◌≡◌, refl}
-use mathlib.Core.Bool.{true, false, not}
-use mathlib.Core.List.{List, [], ◌∷◌, ◌++◌}
-use Prim.Native.Nat.{ℕ, zero, suc}
-use native.Mathlib.Omega.{arith}
-use lib.IntN.{ℤ, pos}
-use lib.ListN.{get_or, drop, replicate}
-use borrow.Author.Tests.{leb-true}
+use Rattle.std.proofs.Common.{◌≡◌, refl, true, false, not, List, [], ◌∷◌, ◌++◌, ℕ, zero, suc, arith, ℤ, pos, get_or, drop, replicate, leb-true}
+use Rattle.std.proofs.Math.Bool.{and-false}
 use Rattle.rules.specs.Choice.{pick}
 use Rattle.rules.specs.Codes.{unknown_kind, unknown_party}
 use Rattle.rules.specs.Record.{no_reports, fresh_party, fresh_monitor, party}
@@ -25,7 +19,7 @@ use Rattle.rules.specs.declared.Answer.{Answer}
 use Rattle.rules.specs.declared.Call.{Call}
 use Rattle.rules.specs.declared.Monitor.{Monitor}
 use Rattle.rules.specs.declared.Stepped.{Stepped}
-use Rattle.rules.proofs.Logic.{Nz, by_test, not_both, and_false, cond_same, zero_nz}
+use Rattle.rules.proofs.Logic.{Nz, by_test, not_both, cond_same, zero_nz}
 use Rattle.rules.proofs.Fine.{look}
 use Rattle.rules.proofs.AnswerCodes.{codes_apart}
 use Rattle.rules.proofs.Sound.{fine_sound, fresh_fine}
@@ -70,8 +64,8 @@ module _ (m : Monitor) (h : List Event) (i : Reached m h) (c : Call) (code : ℤ
   times_refused : Times m (e ∷ h)
   times_refused = record {
     clock = (unfold greatest_clock in rw past_not i.times.clock);
-    latest = λ q. (unfold latest_tx in rw (past_not, and_false) (i.times.latest q));
-    timeout = λ q. (unfold shown_timeout in rw (accepted-not, and_false) (i.times.timeout q));
+    latest = λ q. (unfold latest_tx in rw (past_not, and-false) (i.times.latest q));
+    timeout = λ q. (unfold shown_timeout in rw (accepted-not, and-false) (i.times.timeout q));
     deadline = λ q z. rw (started_before (party m q).owned e h (unfold shows_of in i.world.seen_low (party m q).owned z (i.world.below q))) (i.times.deadline q z);
     opened = i.times.opened;
   }
@@ -81,7 +75,7 @@ module _ (m : Monitor) (h : List Event) (i : Reached m h) (c : Call) (code : ℤ
 
   no_commit : is_owners_commit h e ≡ false
   unfolding is_owners_commit
-  no_commit = rw (past_not, and_false)
+  no_commit = rw (past_not, and-false)
 
   reached_refused' : Reached m (e ∷ h)
   unfolding holds

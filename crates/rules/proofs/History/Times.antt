@@ -1,12 +1,8 @@
 -- The clock, the parties' transactions and timeouts, and each transaction's deadline, against what the history shows of them.
 -- Assumes nothing.
-use mathlib.Core.Path.{◌≡◌, refl, sym, ap, ◌∙◌}
-use mathlib.Core.Bool.{true, false, cond, not, ◌&&◌, ◌||◌}
-use mathlib.Core.List.{List, ◌∷◌}
-use Prim.Native.Nat.{ℕ, suc, ◌+◌, ◌≤◌, max}
-use native.Mathlib.Omega.{arith}
-use lib.Dec.{eqb, ltb, leb}
-use borrow.Author.Tests.{eqb-true, eqb-false, eq-eqb, ne_eqb, ltb-true, ltb-false}
+use Rattle.std.proofs.Common.{◌≡◌, refl, sym, ap, ◌∙◌, true, false, cond, not, ◌&&◌, ◌||◌, List, ◌∷◌, ℕ, suc}
+use Rattle.std.proofs.Common.{◌+◌, ◌≤◌, max, arith, eqb, ltb, leb, eqb-true, eq-eqb, ne_eqb, ltb-true, ltb-false}
+use Rattle.std.proofs.lemmas.Bool.{eqb-false}
 use Rattle.rules.specs.Choice.{same}
 use Rattle.rules.specs.Record.{is_opened, is_working, is_waiting, party, live}
 use Rattle.rules.specs.Transaction.{tx_of, late, deadline_of}

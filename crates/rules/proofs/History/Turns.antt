@@ -1,20 +1,15 @@
 -- The invariant of demand 3's sender rule: whoever may send on a conversation is not barred; each move keeps it.
 -- Assumes nothing.
-use mathlib.Core.Path.{◌≡◌, refl, sym, subst, ◌∙◌}
-use mathlib.Core.Bool.{Bool, true, false, not, ◌&&◌, ◌||◌}
-use mathlib.Core.List.{List, [], ◌∷◌}
-use Prim.Native.Nat.{ℕ, suc, ◌≤◌, ◌<◌}
-use native.Mathlib.Omega.{arith}
-use lib.Dec.{eqb}
-use lib.IntN.{pos}
-use borrow.Author.Tests.{eqb-true, eq-eqb}
+use Rattle.std.proofs.Common.{◌≡◌, refl, sym, subst, ◌∙◌, Bool, true, false, not, ◌&&◌, ◌||◌}
+use Rattle.std.proofs.Common.{List, [], ◌∷◌, ℕ, suc, ◌≤◌, ◌<◌, arith, eqb, pos, eqb-true, eq-eqb}
+use Rattle.std.proofs.Math.Bool.{and-false, and_comm}
 use Rattle.rules.specs.Choice.{pick, same}
 use Rattle.rules.specs.Record.{is_conversation, is_waiting, working}
 use Rattle.rules.specs.History.{Event, some, of_kind, by, answered_by, with_event, link_on, on, is_send, given_send_only, sender_rule}
 use Rattle.rules.specs.declared.Call.{Call}
 use Rattle.rules.specs.declared.Link.{Link}
 use Rattle.rules.specs.declared.Party.{Party}
-use Rattle.rules.proofs.Logic.{Nz, pick_true, pick_false, by_test, test, not_both, same_refl, same_true, same_ne, and_false, or_l, or_r, and_comm}
+use Rattle.rules.proofs.Logic.{Nz, pick_true, pick_false, by_test, test, not_both, same_refl, same_true, same_ne, or_l, or_r}
 use Rattle.rules.proofs.Fine.{no_link}
 use Rattle.rules.proofs.History.Tells.{Tell, nothing, sent, given, taken, tell_of}
 use Rattle.rules.proofs.History.Moves
@@ -50,7 +45,7 @@ module _ (h : List Event) (e : Event) where
 
   -- nobody is barred by what is no send on d
   bar_keep : (q d : ℕ) → sends_at (tell_of e) d ≡ false → barred h q d ≡ false → barred (e ∷ h) q d ≡ false
-  bar_keep q d s b = barred_next q d ∙ rw (s, b, and_false)
+  bar_keep q d s b = barred_next q d ∙ rw (s, b, and-false)
 
   any_keep : (d : ℕ) → sends_at (tell_of e) d ≡ false → any_sent (e ∷ h) d ≡ any_sent h d
   any_keep d s = any_next d ∙ rw s
@@ -194,18 +189,7 @@ module _ (c : Call) (p n m : ℕ) (P : ℕ → Party) (L : ℕ → Link) (n' m' 
 
       spoken : {t : Tell} → tell_of e ≡ t → Move c p n m P L n' m' P' L' t → sends_at (tell_of e) (link_on e) ≡ true → barred h p (link_on e) ≡ false
       spoken q (Moves.sends k d s) y = let r : d ≡ link_on e = same_true _ _ (rw q at y) in rw (← r) (sender_free d s)
-      spoken q (Moves.quiet _ _ _ _) y = not_both (rw q at y) refl
-      spoken q (Moves.grants _ _ _) y = not_both (rw q at y) refl
-      spoken q (Moves.finishes _ _ _) y = not_both (rw q at y) refl
-      spoken q (Moves.cancels _ _ _) y = not_both (rw q at y) refl
-      spoken q (Moves.disconnects _ _ _) y = not_both (rw q at y) refl
-      spoken q (Moves.leaves _ _ _ _) y = not_both (rw q at y) refl
-      spoken q (Moves.ends _ _) y = not_both (rw q at y) refl
-      spoken q (Moves.begins _ _ _ _ _) y = not_both (rw q at y) refl
-      spoken q (Moves.renews _ _ _ _ _ _ _) y = not_both (rw q at y) refl
-      spoken q (Moves.makes _ _ _ _ _) y = not_both (rw q at y) refl
-      spoken q (Moves.makes_free _ _ _) y = not_both (rw q at y) refl
-      spoken q (Moves.takes _ _ _) y = not_both (rw q at y) refl
+      spoken q _ y = not_both (rw q at y) refl
 
 -- an event that tells nothing and leaves the links
 pub turns_still : (n : ℕ) (L : ℕ → Link) (h : List Event) (e : Event) → Turns n L h → tell_of e ≡ nothing → Turns n L (e ∷ h)

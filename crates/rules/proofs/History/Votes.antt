@@ -1,15 +1,9 @@
 -- The managers' reports that the record keeps, against the standing ones that the history shows.
 -- Assumes nothing.
-use mathlib.Core.Path.{◌≡◌, refl, sym, ap, ◌∙◌}
-use mathlib.Core.Bool.{Bool, true, false, not, cond, ◌&&◌, ◌||◌}
-use mathlib.Core.List.{List, [], ◌∷◌}
-use Prim.Native.Nat.{ℕ, zero, suc, ◌≤◌, ◌<◌}
-use native.Mathlib.Omega.{arith}
-use lib.Dec.{eqb, leb}
-use lib.IntN.{ℤ, pos}
-use lib.ListN.{get_or, set, length}
-use lib.Seq.{get_or-set_same, get_or-set_other}
-use borrow.Author.Tests.{eqb-true, eqb-false, eq-eqb, ne_eqb, leb-true, le-leb}
+use Rattle.std.proofs.Common.{◌≡◌, refl, sym, ap, ◌∙◌, Bool, true, false, not, cond, ◌&&◌, ◌||◌, List, [], ◌∷◌, ℕ, suc, ◌≤◌, ◌<◌, arith, eqb}
+use Rattle.std.proofs.Common.{leb, ℤ, pos, get_or, set, length, get_or-set_same, get_or-set_other, eqb-true, eq-eqb, ne_eqb, leb-true, le-leb, rules}
+use Rattle.std.proofs.lemmas.Bool.{eqb-false}
+use Rattle.std.proofs.Math.Bool.{and-false}
 use Rattle.rules.specs.Choice.{same}
 use Rattle.rules.specs.Codes.{not_allowed_now, bad_report}
 use Rattle.rules.specs.Lists.{any_of}
@@ -24,7 +18,7 @@ use Rattle.rules.specs.declared.Call.{Call}
 use Rattle.rules.specs.declared.Monitor.{Monitor}
 use Rattle.rules.specs.declared.Party.{Party}
 use Rattle.rules.specs.declared.Ruled.{Ruled}
-use Rattle.rules.proofs.Logic.{Nz, by_test, test, pick_false, same_true, same_false, zero_nz, not_both, and_l, and_r, and_false, or_l, or_r}
+use Rattle.rules.proofs.Logic.{Nz, by_test, test, pick_false, same_true, same_false, zero_nz, and_l, or_l, or_r}
 use Rattle.rules.proofs.Fine.{Fine}
 use Rattle.rules.proofs.Parties.{party_same, party_other, is_owner_owns, reports_good_lem}
 use Rattle.rules.proofs.Votes.{against_says, start_says, against_none, reports_four, any_four}
@@ -37,10 +31,7 @@ is_strange e = of_kind 22 e && (accepted e && not (leb e.call.b 6))
 
 known_b : (e : Event) (t a : ℕ) → reports_on t a e ≡ true → is_strange e ≡ false → e.call.b ≤ 6
 unfolding reports_on is_strange
-known_b e t a y n =
-    let k : of_kind 22 e ≡ true = and_l _ _ y in
-    let o : accepted e ≡ true = and_l _ _ (and_r (of_kind 22 e) _ y) in
-    test (leb e.call.b 6) (λ i. leb-true e.call.b 6 i) (λ i. not_both (rw (k, o, i)) n)
+known_b e t a y n = search rules
 
 -- what the record keeps of the managers' reports is what the history shows
 pub record Votes (P : ℕ → Party) (h : List Event) : Type 0 where
@@ -81,11 +72,8 @@ stopped_shown = four_say cant_start (λ e. eqb e.call.c 1) stopped refl (λ e b.
     (λ t a. unfold stopped in refl) (λ e h t a. unfold stopped in refl)
 
 none_kept : (a : ℕ) → get_or no_reports a 0 ≡ 0
-none_kept zero = refl
-none_kept (suc zero) = refl
-none_kept (suc (suc zero)) = refl
-none_kept (suc (suc (suc zero))) = refl
 none_kept (suc (suc (suc (suc a)))) = refl
+none_kept _ = refl
 
 -- ---- an event that is no report on t
 standing_still : (e : Event) (h : List Event) (t a : ℕ) → reports_on t a e ≡ false → standing (e ∷ h) t a ≡ standing h t a
@@ -99,11 +87,11 @@ not_22 e t a n = rw n
 
 not_accepted : (e : Event) (t a : ℕ) → accepted e ≡ false → reports_on t a e ≡ false
 unfolding reports_on
-not_accepted e t a n = rw (n, and_false (of_kind 22 e))
+not_accepted e t a n = rw (n, and-false (of_kind 22 e))
 
 not_of : (e : Event) (t a : ℕ) → ends_in t e ≡ false → reports_on t a e ≡ false
 unfolding reports_on
-not_of e t a n = rw (n, and_false (accepted e), and_false (of_kind 22 e))
+not_of e t a n = rw (n, and-false (accepted e), and-false (of_kind 22 e))
 
 -- of a transaction that no answer ends in there is none
 standing_unseen : (h : List Event) (t a : ℕ) → some (ends_in t) h ≡ false → standing h t a ≡ 0
@@ -118,7 +106,7 @@ known_kind e n = rw n
 
 known_refused : (e : Event) → accepted e ≡ false → is_strange e ≡ false
 unfolding is_strange
-known_refused e n = rw (n, and_false (of_kind 22 e))
+known_refused e n = rw (n, and-false (of_kind 22 e))
 
 known_more : (e : Event) (h : List Event) → is_strange e ≡ false → some is_strange h ≡ false → some is_strange (e ∷ h) ≡ false
 unfolding some
@@ -249,7 +237,7 @@ module _ (m : Monitor) (h : List Event) (c : Call) (f : Fine m) (b : c.party < 1
 
     knows : is_strange e' ≡ false
     unfolding is_strange
-    knows = rw (le-leb e'.call.b 6 (unfold e' event_of in report_b c.a c.b c.c is), and_false (accepted e'), and_false (of_kind 22 e'))
+    knows = rw (le-leb e'.call.b 6 (unfold e' event_of in report_b c.a c.b c.c is), and-false (accepted e'), and-false (of_kind 22 e'))
 
     -- another party's transaction is another
     other_kept : (q : ℕ) → same q c.party ≡ false → Nz (party m q).owned → (i : ℕ) → get_or (party m q).reports i 0 ≡ standing (e' ∷ h) (party m q).owned i

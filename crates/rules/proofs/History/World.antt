@@ -1,8 +1,6 @@
 -- The invariant of demand 3's commit rule: parties and links against what the history shows of them.
 -- Assumes nothing.
-use mathlib.Core.Path.{◌≡◌}
-use mathlib.Core.Bool.{Bool, true, false, not, ◌&&◌, ◌||◌}
-use Prim.Native.Nat.{ℕ, ◌≤◌, ◌<◌}
+use Rattle.std.proofs.Common.{◌≡◌, Bool, true, false, not, ◌&&◌, ◌||◌, ℕ, ◌≤◌, ◌<◌}
 use Rattle.rules.specs.Choice.{same}
 use Rattle.rules.specs.Record.{is_attached, is_waiting, is_working, is_returned, is_ending, is_rollback_only}
 use Rattle.rules.specs.declared.Link.{Link}

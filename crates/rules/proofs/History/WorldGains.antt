@@ -1,16 +1,14 @@
 -- The invariant after the moves that add something: a transaction begins, a link is made, a link is taken.
 -- Assumes nothing.
-use mathlib.Core.Path.{◌≡◌, refl, sym, ap, ◌∙◌, fun_ext}
-use mathlib.Core.Bool.{Bool, true, false, not, ◌&&◌, ◌||◌}
-use Prim.Native.Nat.{ℕ, suc, ◌≤◌}
-use native.Mathlib.Omega.{arith}
-use borrow.Author.Tests.{eqb-true}
+use Rattle.std.proofs.Common.{◌≡◌, refl, sym, ap, ◌∙◌, Bool, true, false, not, ◌&&◌, ◌||◌, ℕ, suc, ◌≤◌, arith, eqb-true}
+use Rattle.std.proofs.Math.Path.{fun_ext}
+use Rattle.std.proofs.Math.Bool.{and-false, or-true, or-false}
 use Rattle.rules.specs.Choice.{same}
 use Rattle.rules.specs.Record.{is_rollback_only, is_attached, is_waiting, is_working, is_returned, is_ending, working}
 use Rattle.rules.specs.declared.Link.{Link}
 use Rattle.rules.specs.declared.Party.{Party}
 use Rattle.rules.proofs.Logic.{pick_true, pick_false, test, not_both, same_refl, same_true, same_false, same_ne}
-use Rattle.rules.proofs.Logic.{and_l, and_false, or_true, or_false, Nz, by_number, suc_nz, zero_nz, above_nz}
+use Rattle.rules.proofs.Logic.{and_l, Nz, by_number, suc_nz, zero_nz, above_nz}
 use Rattle.rules.proofs.Fine.{tx_p}
 use Rattle.rules.proofs.History.Tells.{nothing, made, taken}
 use Rattle.rules.proofs.History.Shows.{Shows, Next}
@@ -23,17 +21,7 @@ use Rattle.rules.proofs.History.WorldLosses.{idle_keeps, ends_keeps}
 -- ---- a transaction begins
 -- what v shows, with the owners that v' shows
 abbrev restamped : Shows → Shows → Shows
-restamped v v' =
-    record {
-      serves = v.serves;
-      link_of = v.link_of;
-      made_by = v.made_by;
-      finished = v.finished;
-      failed = v.failed;
-      disc = v.disc;
-      owner = v'.owner;
-      seen = v'.seen;
-    }
+restamped v v' = record v { owner = v'.owner; seen = v'.seen }
 
 module _ {n m : ℕ} {P : ℕ → Party} {L : ℕ → Link} {v : Shows} (w : World n m P L v) {P' : ℕ → Party} {L' : ℕ → Link} {v' : Shows} {p x : ℕ} {starts : Bool}
     (is : x ≡ tx_p P' L' p) (begun : starts ≡ true) (k : Next nothing p x starts v v') (none : tx_p P L p ≡ 0) (h : Begins P L P' L' p (suc m)) where
@@ -139,17 +127,7 @@ renews_world {P} {L} w {p} is begun k e b = begins_world (ends_keeps w e) is beg
 -- ---- a link is made
 -- what v shows, with other links
 abbrev relinked : Shows → (ℕ → ℕ → Bool) → (ℕ → ℕ → ℕ → Bool) → Shows
-relinked v lo mb =
-    record {
-      serves = v.serves;
-      link_of = lo;
-      made_by = mb;
-      finished = v.finished;
-      failed = v.failed;
-      disc = v.disc;
-      owner = v.owner;
-      seen = v.seen;
-    }
+relinked v lo mb = record v { link_of = lo; made_by = mb }
 
 -- p makes the link suc n of x
 module _ {n m : ℕ} {P : ℕ → Party} {L : ℕ → Link} {v : Shows} (w : World n m P L v) {P' : ℕ → Party} {L' : ℕ → Link} {p x : ℕ}
@@ -191,10 +169,10 @@ module _ {n m : ℕ} {P : ℕ → Party} {L : ℕ → Link} {v : Shows} (w : Wor
     old_makers d u o z e = makers d u o z ∙ rw (same_ne (suc n) d (λ r. same_false d (suc n) e (sym r)))
 
     new_links : (u : ℕ) → Nz u → lo (suc n) u ≡ same x u
-    new_links u z = links (suc n) u z ∙ rw (same_refl (suc n), wₚ.new_link (suc n) u z (omega arith), or_false)
+    new_links u z = links (suc n) u z ∙ rw (same_refl (suc n), wₚ.new_link (suc n) u z (omega arith), or-false)
 
     new_makers : (u o : ℕ) → Nz u → mb (suc n) u o ≡ same x u && same p o
-    new_makers u o z = makers (suc n) u o z ∙ rw (same_refl (suc n), wₚ.new_made (suc n) u o z (omega arith), or_false)
+    new_makers u o z = makers (suc n) u o z ∙ rw (same_refl (suc n), wₚ.new_made (suc n) u o z (omega arith), or-false)
 
     makes_core : World (suc n) m P' L' (relinked v lo mb)
     makes_core = record {
@@ -243,8 +221,8 @@ module _ {n m : ℕ} {P : ℕ → Party} {L : ℕ → Link} {v : Shows} (w : Wor
       upper = by_number (suc n) (λ d. Nz (L' d).number → d ≤ suc n) (λ _. omega arith) (λ e q z. let u = wₚ.upper e (rw (h.others e q) at z) in omega arith);
       new_failed = wₚ.new_failed;
       new_disc = wₚ.new_disc;
-      new_of = λ d t b. links d t (above_nz m t b) ∙ let l = x_low in rw (same_ne x t (omega arith), and_false) (wₚ.new_of d t b);
-      new_by = λ d t o b. makers d t o (above_nz m t b) ∙ let l = x_low in rw (same_ne x t (omega arith), and_false) (wₚ.new_by d t o b);
+      new_of = λ d t b. links d t (above_nz m t b) ∙ let l = x_low in rw (same_ne x t (omega arith), and-false) (wₚ.new_of d t b);
+      new_by = λ d t o b. makers d t o (above_nz m t b) ∙ let l = x_low in rw (same_ne x t (omega arith), and-false) (wₚ.new_by d t o b);
       new_link = λ d t z b. old_links d t z (same_ne d (suc n) (omega arith)) ∙ wₚ.new_link d t z (omega arith);
       new_made = λ d t o z b. old_makers d t o z (same_ne d (suc n) (omega arith)) ∙ wₚ.new_made d t o z (omega arith);
       new_fin = λ d o b. wₚ.new_fin d o (omega arith);
@@ -275,7 +253,7 @@ module _ {n m : ℕ} {P : ℕ → Party} {L : ℕ → Link} {v : Shows}
 
   pub makes_free_world : Next nothing p x starts v v' → Makes P L P' L' p (suc n) 0 → World (suc n) m P' L' v'
   makes_free_world k h = plainly k is plain_nothing (makes_core w h v.link_of v.made_by
-      (λ d u nu. rw (zero-not u nu, and_false)) (λ d u o nu. rw (zero-not u nu, and_false)))
+      (λ d u nu. rw (zero-not u nu, and-false)) (λ d u o nu. rw (zero-not u nu, and-false)))
     where
       zero-not : (u : ℕ) → Nz u → same 0 u ≡ false
       zero-not u z = same_ne 0 u (λ r. same_false u 0 z (sym r))
@@ -283,17 +261,7 @@ module _ {n m : ℕ} {P : ℕ → Party} {L : ℕ → Link} {v : Shows}
 -- ---- a link is taken
 -- what v shows, with other servers
 abbrev reserved : Shows → (ℕ → (ℕ → Bool) → Bool) → Shows
-reserved v s =
-    record {
-      serves = s;
-      link_of = v.link_of;
-      made_by = v.made_by;
-      finished = v.finished;
-      failed = v.failed;
-      disc = v.disc;
-      owner = v.owner;
-      seen = v.seen;
-    }
+reserved v s = record v { serves = s }
 
 module _ {n m : ℕ} {P : ℕ → Party} {L : ℕ → Link} {v : Shows} (w : World n m P L v) {P' : ℕ → Party} {L' : ℕ → Link} {p d : ℕ} (s : ℕ → (ℕ → Bool) → Bool)
     (servers : (q : ℕ) (f : ℕ → Bool) → s q f ≡ (same p q && f d) || v.serves q f) (h : Takes P L P' L' p d) where
@@ -314,7 +282,7 @@ module _ {n m : ℕ} {P : ℕ → Party} {L : ℕ → Link} {v : Shows} (w : Wor
 
   -- the link's transaction is live, and not p's
   take_live : Nz (L d).tx → (q : ℕ) × ((P q).owned ≡ (L d).tx)
-  take_live z = w.live d z (rw (waited, or_true))
+  take_live z = w.live d z (rw (waited, or-true))
 
   take_own : Nz (L d).tx → v.owner (L d).tx p ≡ false
   take_own z = let r = take_live z in ap (λ t. v.owner t p) (sym r.1) ∙ w.owner_is r.0 p (rw r.1 z)
@@ -336,7 +304,7 @@ module _ {n m : ℕ} {P : ℕ → Party} {L : ℕ → Link} {v : Shows} (w : Wor
     clean = λ q z. rw (h.mark' q) (w.clean q (rw (h.owned' q) at z));
     mark_is = λ q z. rw (h.owned' q, h.mark' q) (w.mark_is q (rw (h.owned' q) at z));
     serve = by_number p (λ q. (f : ℕ → Bool) → s q f ≡ not (same (P' q).served 0) && f (P' q).served)
-        (λ f. servers p f ∙ rw (same_refl p, w.serve p f, h.served_none, same_refl 0, or_false, h.p_served, d_nz))
+        (λ f. servers p f ∙ rw (same_refl p, w.serve p f, h.served_none, same_refl 0, or-false, h.p_served, d_nz))
         (λ q e f. servers q f ∙ rw (same_ne p q (λ r. same_false q p e (sym r)), h.served' q e) (w.serve q f));
     works = by_number p (λ q. Nz (P' q).served → is_working (L' (P' q).served) ≡ true)
         (λ _. rw (h.p_served, h.works)) (λ q e z. let z' : Nz (P q).served = rw (h.served' q e) at z in rw (h.served' q e, not_d q z') (w.works q z'));

@@ -1,16 +1,14 @@
 -- The invariant after each move by which links only lose: nothing, a send, a grant, a finish, a cancel, a disconnect, an end.
 -- Each lemma goes from World n m P L v, with the last field x of the answer and what the event adds (Next), to World n m P' L' v'.
 -- Assumes nothing.
-use mathlib.Core.Path.{◌≡◌, refl, sym, ap, ◌∙◌}
-use mathlib.Core.Bool.{Bool, true, false, ◌&&◌, ◌||◌}
-use Prim.Native.Nat.{ℕ}
-use native.Mathlib.Omega.{arith}
+use Rattle.std.proofs.Common.{◌≡◌, refl, sym, ap, ◌∙◌, Bool, true, false, ◌&&◌, ◌||◌, ℕ, arith}
+use Rattle.std.proofs.Math.Bool.{and-false, or-true}
 use Rattle.rules.specs.Choice.{same}
 use Rattle.rules.specs.Record.{is_attached, is_working, is_rollback_only}
 use Rattle.rules.specs.declared.Link.{Link}
 use Rattle.rules.specs.declared.Party.{Party}
 use Rattle.rules.proofs.Logic.{Nz, pick_true, pick_false, same_refl, same_true, same_false, same_ne, test}
-use Rattle.rules.proofs.Logic.{not_both, and_l, and_r, and_false, or_l, or_true, above_nz, nz_other}
+use Rattle.rules.proofs.Logic.{not_both, and_l, and_r, or_l, above_nz, nz_other}
 use Rattle.rules.proofs.Fine.{no_link, tx_p}
 use Rattle.rules.proofs.History.Tells.{nothing, sent, given, finished, disconnected, left}
 use Rattle.rules.proofs.History.Moves.{Like, Left, gone, Idle, Sends, Grants, Finishes, Cancels, Disconnects, Leaves, Ends}
@@ -182,7 +180,7 @@ module _ {n m : ℕ} {P : ℕ → Party} {L : ℕ → Link} {v : Shows} (w : Wor
 
   disconnects_mark : (q : ℕ) → Nz (P q).owned → is_rollback_only (P' q) ≡ v'.failed (P q).owned || v'.disc (P q).owned
   disconnects_mark q z = rw (k.failed' _ z, disconnects_disc _ z) (test (same (L d).tx (P q).owned)
-      (λ y. rw (disconnects_hit q z (same_true _ _ y), y) (sym (or_true (v.failed (P q).owned))))
+      (λ y. rw (disconnects_hit q z (same_true _ _ y), y) (sym (or-true (v.failed (P q).owned))))
       (λ y. rw (disconnects_miss q y, y) (w.mark_is q z)))
 
   pub hangs_world : World n m P' L' v'
@@ -295,7 +293,7 @@ module _ {n m : ℕ} {P : ℕ → Party} {L : ℕ → Link} {v : Shows} (w : Wor
       (λ e. let r = same_true _ _ e in test bad
       (λ b. rw (e, b, h.hit q y b (sym r) z))
       (λ b. rw (b, h.miss q y z (λ _ u. not_both u b) (λ i o a t. not_both (ours q y z i o a t).1 b)) (w.mark_is q z)))
-      (λ e. rw (e, and_false, h.miss q y z (λ u _. same_false _ _ e (sym u)) (λ i o a t. same_false _ _ e (sym (ours q y z i o a t).0))) (w.mark_is q z)))
+      (λ e. rw (e, and-false, h.miss q y z (λ u _. same_false _ _ e (sym u)) (λ i o a t. same_false _ _ e (sym (ours q y z i o a t).0))) (w.mark_is q z)))
 
   -- another's served link is another, and goes on to work
   apart : (q : ℕ) → same q p ≡ false → Nz (P q).served → same (P q).served (P p).served ≡ false
@@ -350,7 +348,7 @@ module _ {n m : ℕ} {P : ℕ → Party} {L : ℕ → Link} {v : Shows} (w : Wor
       leave_kept e o q y (rw (h.owned' q y) at z) b un,
     );
     new_failed' =
-        λ t b. k.failed' t (above_nz m t b) ∙ rw (w.serve p (λ d. v.link_of d t), w.new_of (P p).served t b, and_false, and_false) (w.new_failed t b);
+        λ t b. k.failed' t (above_nz m t b) ∙ rw (w.serve p (λ d. v.link_of d t), w.new_of (P p).served t b, and-false, and-false) (w.new_failed t b);
     new_disc' = λ t b. k.disc' t (above_nz m t b) ∙ w.new_disc t b;
     new_fin' = λ e o b. k.unfinished' e o refl ∙ w.new_fin e o b;
   }))

@@ -1,8 +1,8 @@
 -- `listing::piece::list_piece` meets its contract.
-use Rattle.std.proofs.Common.{◌≡◌, ◌*◌, length-take, arith, rules, w64, to_z, of_z}
+use Rattle.std.proofs.Common.{◌≡◌, length-take-le, sym, arith, rules, w64, to_z, of_z}
 use Rattle.monitor.specs.File.{passed}
 use Rattle.monitor.specs.View.{view}
-use Rattle.listing.proofs.Digits.{lines_taken, lines_short}
+use Rattle.listing.proofs.Digits.{lines_taken}
 use Rattle.listing.proofs.Puts.{puts_then}
 use Rattle.listing.proofs.Pieces.{few_calls, listed_little, listed_enough}
 use Rattle.listing.proofs.piece.list_piece.Goals as goal
@@ -10,34 +10,18 @@ use Rattle.listing.proofs.piece.list_piece.Goals.{then-room-lt22-via-then-room-l
 
 pub returns-then-room-lt22 : goal.returns-then-room-lt22
 returns-then-room-lt22 c =
-    listed_little _ _ _ _ _
+    let raw : to_z w64 (of_z w64 c.code.result) ≡ c.code.result = search rules in
+    rw (raw, c.code.ensures.is)
+    (listed_little _ _ _ _ _
     (elim c.then-room-lt22.branch [
       | then-room-lt22-via-then-room-lt22 w ↦ omega (arith, w.if-room-lt22.true)
       | then-room-lt22-via-else-room-lt22+then-room-answers w ↦ omega (arith, w.if-room-answers.true)
-    ])
-
-pub overflow_mul-ran : goal.overflow_mul-ran
-overflow_mul-ran c =
-    let few = few_calls _ _ _ _ c.run_piece-ran.ensures in
-    record { fits = omega (arith, few) }
-
-pub slice_bounds-put_lines-end : goal.slice_bounds-put_lines-end
-slice_bounds-put_lines-end c =
-    let few = few_calls _ _ _ _ c.run_piece-ran.ensures in
-    omega (arith, c.run_piece-ran.auto.answers)
+    ]))
 
 pub slice_bounds-put_lines-end-2 : goal.slice_bounds-put_lines-end-2
 slice_bounds-put_lines-end-2 c =
     let few = few_calls _ _ _ _ c.run_piece-ran.ensures in
-    omega (arith, c.run_piece-ran.auto.answers, length-take (c.run_piece-ran.result.calls * 6) c.run_piece-ran.new.answers)
-
-pub put_refusal-written-requires : goal.put_refusal-written-requires
-put_refusal-written-requires c =
-    let few = few_calls _ _ _ _ c.run_piece-ran.ensures in
-    let calls = c.run_piece-ran.result.calls in
-    let answers = c.run_piece-ran.new.answers in
-    let lines = rw (lines_taken calls answers (omega arith)) at c.put_lines-lines.ensures in
-    omega (arith, lines_short calls answers)
+    sym (length-take-le _ _ (omega (arith, c.run_piece-ran.auto.answers)))
 
 pub returns : goal.returns
 returns c =

@@ -1,27 +1,17 @@
 -- `text::put_lines` meets its contract.
-use Rattle.std.proofs.Common.{◌≡◌, ◌<◌, ◌/◌, length, get_or, get_or-take, length-take, take, [], pos, append-nil, ap, arith, rules}
-use Rattle.listing.specs.Text.{lines_of}
-use Rattle.listing.proofs.Digits.{field_read, fields_of, call_long, lines_room, field_next, line_next}
-use Rattle.listing.proofs.Puts.{puts_none}
+use Rattle.std.proofs.Common.{◌≡◌, ◌<◌, ◌/◌, length, get_or, get_or-take, length-take, take, [], pos, ap, arith, rules}
+use Rattle.listing.proofs.Digits.{field_read, call_long, lines_room, field_next, line_next}
 use Rattle.listing.proofs.text.put_lines.Goals as goal
-
-pub loop-call-init : goal.loop-call-init
-unfolding lines_of
-loop-call-init c = puts_none c.args.out.now 0
-
-pub loop-n-init : goal.loop-n-init
-unfolding fields_of
-loop-n-init c = rw (append-nil (lines_of c.loop-call.call-index c.args.answers.now)) c.loop-call.invariant
 
 pub put_field-at-requires : goal.put_field-at-requires
 put_field-at-requires c =
     let call = get_or c.as_chunks.result.0.now c.loop-call.call-index [] in
-    omega (
-      arith,
-      lines_room c.args.answers.now c.loop-call.call-index call c.loop-n.n-index c.loop-n.invariant,
-      length-take 5 call,
-      c.as_chunks.ensures.front_len,
-    )
+    omega (arith, lines_room _ _ _ _ c.loop-n.invariant, length-take 5 call, c.as_chunks.ensures.front_len)
+
+pub put_field-at-requires-in-loop-call : goal.put_field-at-requires-in-loop-call
+put_field-at-requires-in-loop-call c =
+    let call = get_or c.as_chunks.result.0.now c.loop-call.call-index [] in
+    omega (arith, lines_room _ _ _ _ c.loop-n.invariant, length-take 5 call, c.as_chunks.ensures.front_len)
 
 pub loop-n-preserved : goal.loop-n-preserved
 loop-n-preserved c =
@@ -31,16 +21,6 @@ loop-n-preserved c =
     let few : n < 5 = omega (arith, length-take 5 call) in
     field_next c.args.answers.now c.loop-call.call-index call n c.loop-n.invariant
     (rw (get_or-take 5 call n (pos 0) few) at field)
-
-pub put_field-at-requires-in-loop-call : goal.put_field-at-requires-in-loop-call
-put_field-at-requires-in-loop-call c =
-    let call = get_or c.as_chunks.result.0.now c.loop-call.call-index [] in
-    omega (
-      arith,
-      lines_room c.args.answers.now c.loop-call.call-index call c.loop-n.n-index c.loop-n.invariant,
-      length-take 5 call,
-      c.as_chunks.ensures.front_len,
-    )
 
 pub loop-call-preserved : goal.loop-call-preserved
 loop-call-preserved c =

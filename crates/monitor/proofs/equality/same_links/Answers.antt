@@ -1,6 +1,6 @@
 -- `equality::same_links` meets its contract.
 use Rattle.monitor.proofs.Usual.{ℕ, sym, ap, ◌∙◌, arith, rules, take, fresh_link, live, view, link_in, same_link, all_same, links_long}
-use borrow.Author.Tests.{tests}
+use Rattle.std.proofs.Common.{tests}
 use Rattle.std.proofs.lemmas.Iterator.{YieldsList-from_range}
 use Rattle.std.proofs.lemmas.Iterator.Search.{all_from_yields_List}
 use Rattle.monitor.proofs.Alike.{alike_at}

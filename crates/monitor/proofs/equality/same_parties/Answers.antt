@@ -1,6 +1,6 @@
 -- `equality::same_parties` meets its contract.
 use Rattle.monitor.proofs.Usual.{refl, sym, ◌∙◌, arith, rules, fresh_party, party, view, same_party, parties_long}
-use borrow.Author.Tests.{tests}
+use Rattle.std.proofs.Common.{tests}
 use Rattle.std.proofs.lemmas.Iterator.{YieldsList-from_range}
 use Rattle.std.proofs.lemmas.Iterator.Search.{all_from_yields_List}
 use Rattle.monitor.specs.View.{parties_from}

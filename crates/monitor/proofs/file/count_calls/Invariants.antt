@@ -1,5 +1,4 @@
-use Prim.Native.Nat.{◌-◌}
-use lib.ListN.{length}
+use Rattle.std.proofs.Common.{◌-◌, length}
 use Rattle.monitor.proofs.Calls.{Counts}
 use Rattle.monitor.proofs.file.count_calls.Given as goal
 

@@ -1,7 +1,7 @@
 -- six stores, one after the other
 use Rattle.monitor.proofs.Usual.{ℕ, suc, ◌+◌, ◌≤◌, ◌≡◌, ◌∙◌, List, [], ◌∷◌, ◌++◌, arith, rules, length, take}
 use Rattle.monitor.proofs.Usual.{drop, set, ℤ, w64, to_z, of_z, places_of}
-use lib.Seq.{sets-eq}
+use Rattle.std.proofs.lemmas.List.Edits.{sets-eq}
 use Rattle.monitor.proofs.run.put.Goals as goal
 
 abbrev stored : List ℤ → ℕ → ℤ → ℤ → ℤ → ℤ → ℤ → ℤ → List ℤ

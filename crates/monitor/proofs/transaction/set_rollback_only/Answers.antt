@@ -1,7 +1,7 @@
 -- `transaction::set_rollback_only` meets its contract.
 use Rattle.monitor.proofs.Usual.{◌≤◌, ap, sym, ◌∙◌, arith, ne_eqb, length, with_parties, rollback_only_in, view, pick_false, parties_long, found_none}
 use Rattle.rules.specs.Transaction.{owner_of}
-use lib.Seq.{set_out}
+use Rattle.std.proofs.Math.Seq.{set_out}
 use Rattle.monitor.proofs.transaction.set_rollback_only.Goals as goal
 
 pub returns-in_default : goal.returns-in_default

@@ -1,6 +1,6 @@
 -- `votes::all_can_start` meets its contract.
 use Rattle.monitor.proofs.Usual.{sym, ◌∙◌, rules, ltb}
-use borrow.Author.Tests.{tests}
+use Rattle.std.proofs.Common.{tests}
 use Rattle.std.proofs.lemmas.Iterator.{YieldsList-from_slice}
 use Rattle.std.proofs.lemmas.Iterator.Search.{all_from_yields_List}
 use Rattle.monitor.proofs.Reports.{none_blocks}

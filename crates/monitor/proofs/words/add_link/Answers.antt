@@ -1,6 +1,6 @@
 -- `words::add_link` meets its contract: `put_link` writes the link, and two stores the last number and the count.
 use Rattle.monitor.proofs.Usual.{◌+◌, ap, ◌∙◌, rules, Monitor, set, view, with_last_link, with_contents, with_count}
-use lib.ListN.{length-set}
+use Rattle.std.proofs.Common.{length-set}
 use Rattle.monitor.proofs.Put.{set_last_link_law, set_count_law}
 use Rattle.monitor.proofs.words.add_link.Goals as goal
 

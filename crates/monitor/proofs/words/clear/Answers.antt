@@ -1,6 +1,6 @@
 -- `words::clear` meets its contract: the parties before p are fresh, and the rest is 0.
 use Rattle.monitor.proofs.Usual.{◌≡◌, ap, ◌∙◌, arith, Monitor, with_party, words, view, parties_long}
-use lib.ListN.{replicate}
+use Rattle.std.proofs.Common.{replicate}
 use Rattle.monitor.proofs.Clearing.{cleared_to, cleared_more, cleared_all, zeros_fresh}
 use Rattle.monitor.proofs.words.clear.Goals as goal
 

@@ -1,5 +1,5 @@
 use Rattle.monitor.proofs.Usual.{◌≡◌, words, view}
-use lib.ListN.{replicate}
+use Rattle.std.proofs.Common.{replicate}
 use Rattle.monitor.proofs.Clearing.{cleared_to}
 use Rattle.monitor.proofs.words.clear.Given as goal
 

@@ -1,6 +1,5 @@
-use Prim.Native.Nat.{◌+◌, ◌-◌}
-use lib.ListN.{length}
-use lib.Seq.{sets}
+use Rattle.std.proofs.Common.{◌+◌, ◌-◌, length}
+use Rattle.std.proofs.lemmas.List.Edits.{sets}
 use Rattle.number.specs.Writer.{number_bytes}
 use Rattle.number.proofs.Stores.{Store}
 use Rattle.number.proofs.writer.encode_rest.Given as goal

@@ -1,8 +1,6 @@
 -- The walk over the kinds: every rule makes one of the moves.
 -- Assumes nothing.
-use mathlib.Core.Path.{◌≡◌}
-use mathlib.Core.Bool.{true}
-use Prim.Native.Nat.{◌<◌}
+use Rattle.std.proofs.Common.{◌≡◌, true, ◌<◌}
 use Rattle.rules.specs.Step.{rule_of, is_kind}
 use Rattle.rules.specs.declared.Call.{Call}
 use Rattle.rules.specs.declared.Monitor.{Monitor}

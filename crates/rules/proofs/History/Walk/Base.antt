@@ -1,12 +1,7 @@
 -- How the walk makes a `Moved`: of a question, of a refusal, and of what a rule changes.
 -- Assumes nothing.
-use mathlib.Core.Path.{◌≡◌, refl, sym, ◌∙◌}
-use mathlib.Core.Bool.{Bool, true, false}
-use Prim.Native.Nat.{ℕ, ◌<◌}
-use lib.Dec.{eqb}
-use lib.IntN.{ℤ, pos}
-use lib.ListN.{set}
-use lib.Seq.{get_or-set_same, get_or-set_other}
+use Rattle.std.proofs.Common.{◌≡◌, refl, sym, ◌∙◌, Bool, true, false, ℕ, ◌<◌, eqb, ℤ, pos, set, get_or-set_same, get_or-set_other, rules}
+use Rattle.std.proofs.lemmas.Bool.{not-true}
 use Rattle.rules.specs.Choice.{pick, same}
 use Rattle.rules.specs.Record.{fresh_party, is_opened, party, live, with_party, ruled, valued, ask}
 use Rattle.rules.specs.Rights.{SameRights}
@@ -16,7 +11,7 @@ use Rattle.rules.specs.declared.Call.{Call}
 use Rattle.rules.specs.declared.Monitor.{Monitor}
 use Rattle.rules.specs.declared.Party.{Party}
 use Rattle.rules.specs.declared.Ruled.{Ruled}
-use Rattle.rules.proofs.Logic.{by_test, Nz, same_false, or_l, and_l, not_true, by_number}
+use Rattle.rules.proofs.Logic.{by_test, Nz, same_false, or_l, and_l, by_number}
 use Rattle.rules.proofs.Fine.{look, Shape, Frame, Fine}
 use Rattle.rules.proofs.Parties.{party_frame, Marks, plain, marked}
 use Rattle.rules.proofs.History.Tells.{Tell, nothing}
@@ -59,7 +54,7 @@ pick_moved f g = by_test (Moved _ _) f g
 
 -- ---- parties that stay
 pub stays_self : (x : Party) → Stays x x
-stays_self x = record { opened' = refl; timeout' = refl; owned' = refl; deadline' = refl; served' = refl; reports' = refl }
+stays_self x = search rules
 
 pub marks_stay : (x y : Party) → Marks x y → Stays x y
 marks_stay x y (plain e) = rw e (stays_self x)
@@ -113,7 +108,7 @@ pub refused : {m : Monitor} {c : Call} (code : ℤ) → is_quiet code ≡ true �
 refused {m} {c} code h f = unmoved code f (time_refused c (ruled m code) _ (not-0 code h)) (says_quiet c (ruled m code) refl h)
   where
     not-0 : (z : ℤ) → is_quiet z ≡ true → same_code (pos 0) z ≡ false
-    not-0 z q = or_l _ _ (not_true _ (and_l (is_silent z) _ q))
+    not-0 z q = or_l _ _ (not-true _ (and_l (is_silent z) _ q))
 
 -- by a kind that tells nothing and sets no timeout, with any code past question 21
 pub moved_still : {m : Monitor} {c : Call} (k : ℕ) → c.kind ≡ k → is_plain k ≡ true → is_timed k ≡ false → (code : ℤ) → is_past code ≡ true → Fine m

@@ -1,12 +1,6 @@
 -- The walk over kinds 17 to 19: send, receive and disconnect on a conversation.
 -- Assumes nothing.
-use mathlib.Core.Path.{◌≡◌, refl, sym, ap, ◌∙◌}
-use mathlib.Core.Bool.{Bool, true, false, not, ◌||◌}
-use mathlib.Core.List.{List}
-use Prim.Native.Nat.{ℕ, ◌<◌}
-use lib.Dec.{eqb, leb}
-use lib.IntN.{ℤ}
-use lib.ListN.{get_or}
+use Rattle.std.proofs.Common.{◌≡◌, refl, sym, ap, ◌∙◌, Bool, true, false, not, ◌||◌, List, ℕ, ◌<◌, eqb, leb, ℤ, get_or}
 use Rattle.rules.specs.Choice.{same}
 use Rattle.rules.specs.Codes.{bad_argument, not_allowed_now, no_such_end, timed_out, nothing_unread, unread_full, tp_accepted, tpe_event}
 use Rattle.rules.specs.Record.{fresh_link, fresh_party, is_conversation, is_attached, is_working, is_returned, own_end, party, live}

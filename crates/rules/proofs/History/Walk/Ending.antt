@@ -1,9 +1,6 @@
 -- What the end of a transaction leaves: of a link, and of the record (kinds 4, 5, 20 and 21).
 -- Assumes nothing.
-use mathlib.Core.Path.{◌≡◌, refl, sym, ap, ◌∙◌}
-use mathlib.Core.Bool.{true, false, ◌||◌}
-use Prim.Native.Nat.{ℕ, ◌<◌}
-use lib.ListN.{set, length-set}
+use Rattle.std.proofs.Common.{◌≡◌, refl, sym, ap, ◌∙◌, true, false, ◌||◌, ℕ, ◌<◌, set, length-set, rules}
 use Rattle.rules.specs.Choice.{same}
 use Rattle.rules.specs.Record.{is_attached, is_waiting, is_working, is_notified, party, live, owning_none, closed, disconnected_link}
 use Rattle.rules.specs.Transaction.{orphaned, end_of, end_tx}
@@ -37,18 +34,7 @@ fade_open l x (goes e) o = not_both o (rw e no_link_attached)
 fade_open l x (shuts s) o = not_both o s.closed'
 
 shut_trans : (l x y : Link) → Shut l x → Shut x y → Shut l y
-shut_trans l x y s u = record {
-  number' = u.number' ∙ s.number';
-  kind' = u.kind' ∙ s.kind';
-  originator' = u.originator' ∙ s.originator';
-  closed' = u.closed';
-  tx' = u.tx' ∙ s.tx';
-  state' = u.state' ∙ s.state';
-  server' = u.server' ∙ s.server';
-  outcome' = u.outcome' ∙ s.outcome';
-  sender' = u.sender' ∙ s.sender';
-  good' = λ g. u.good' (s.good' g);
-}
+shut_trans l x y s u = search rules
 
 fade_shut : (l x y : Link) → Fade l x → Shut x y → is_working x ≡ true → Fade l y
 fade_shut l x y (stays e) u w = shuts (rw e at u)

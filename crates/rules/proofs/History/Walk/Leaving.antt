@@ -1,11 +1,6 @@
 -- The record after each step of a party's leaving: parties and links afterwards by those before.
 -- Assumes nothing.
-use mathlib.Core.Path.{◌≡◌, refl, sym, ap, ◌∙◌}
-use mathlib.Core.Bool.{true, false}
-use Prim.Native.Nat.{ℕ, ◌<◌}
-use lib.Dec.{eqb}
-use lib.ListN.{get_or}
-use borrow.Author.Tests.{eqb-true}
+use Rattle.std.proofs.Common.{◌≡◌, refl, sym, ap, ◌∙◌, true, false, ℕ, ◌<◌, eqb, get_or, eqb-true, arith}
 use Rattle.rules.specs.Choice.{pick, same}
 use Rattle.rules.specs.Record.{fresh_party, is_conversation, is_attached, own_end, party, live, link_of, owning_none, rollback_only, returned, changed}
 use Rattle.rules.specs.Transaction.{rollback_only_tx, end_tx}
@@ -34,7 +29,7 @@ pub record Numbers (m m' : Monitor) : Type 0 where
   pub lasttx' : m'.lasttx ≡ m.lasttx
 
 pub numbers_then : {m m₁ m₂ : Monitor} → Numbers m m₁ → Numbers m₁ m₂ → Numbers m m₂
-numbers_then f g = record { clock' = g.clock' ∙ f.clock'; lastlink' = g.lastlink' ∙ f.lastlink'; lasttx' = g.lasttx' ∙ f.lasttx' }
+numbers_then f g = omega arith
 
 pub changed_numbers : (m : Monitor) (d : ℕ) (l : Link) → Numbers m (changed m d l)
 changed_numbers m d l = record { clock' = changed_clock m d l; lastlink' = changed_lastlink m d l; lasttx' = changed_lasttx m d l }

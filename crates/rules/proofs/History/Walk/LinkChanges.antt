@@ -1,17 +1,13 @@
 -- What each change of a link leaves of it: alike, its end closed, returned; and that it is still a good link.
 -- Assumes nothing.
-use mathlib.Core.Path.{◌≡◌, refl, sym}
-use mathlib.Core.Bool.{true, false, ◌&&◌, ◌||◌}
-use mathlib.Core.List.{List}
-use Prim.Native.Nat.{ℕ, ◌+◌, ◌-◌, ◌<◌}
-use native.Mathlib.Omega.{arith}
-use lib.Dec.{eqb, leb, ltb}
-use borrow.Author.Tests.{eqb-true, leb-true, ltb-true, le-leb}
+use Rattle.std.proofs.Common.{◌≡◌, refl, true, false, ◌&&◌, ◌||◌, List, ℕ, ◌<◌}
+use Rattle.std.proofs.Common.{eqb, leb, ltb, eqb-true, rules}
+use Rattle.std.proofs.lemmas.Bool.{and_from}
 use Rattle.rules.specs.Record.{is_attached, is_waiting, is_working, is_returned, is_ending, is_disconnected, is_notified, own_end, with_ends, with_unread}
 use Rattle.rules.specs.Record.{closed, dropped, disconnected_link, notified, new_link, working, returned, with_sent, without_oldest}
 use Rattle.rules.specs.Sound.{link_good}
 use Rattle.rules.specs.declared.Link.{Link}
-use Rattle.rules.proofs.Logic.{test, not_both, and_l, and_r, and_true, not_true, or_cases, or_true, same_refl}
+use Rattle.rules.proofs.Logic.{same_refl}
 use Rattle.rules.proofs.Fine.{no_link}
 use Rattle.rules.proofs.History.Moves.{is_whole, Like, Shut, Back, Left}
 
@@ -30,32 +26,10 @@ pub record Parts (l : Link) : Type 0 where
   pub ended : is_returned l && eqb l.outcome 0 ≡ false
 
 pub parts : (l : Link) → link_good l ≡ true → Parts l
-parts l g =
-    let g1 = and_r (leb l.kind 1) _ g in
-    let g2 = and_r (leb l.originator 15) _ g1 in
-    let g3 = and_r (leb l.attached 1) _ g2 in
-    let g4 = and_r (leb l.state 2) _ g3 in
-    let g5 = and_r (leb l.server 15) _ g4 in
-    let g6 = and_r (eqb l.outcome 0 || is_ending l.outcome) _ g5 in
-    let g7 = and_r (leb l.sender 1) _ g6 in
-    let g8 = and_r (leb l.granting 1) _ g7 in
-    let g9 = and_r (leb l.disconnected 2) _ g8 in
-    record {
-      kind = and_l _ _ g;
-      originator = and_l _ _ g1;
-      attached = and_l _ _ g2;
-      state = and_l _ _ g3;
-      server = and_l _ _ g4;
-      outcome = and_l _ _ g5;
-      sender = and_l _ _ g6;
-      granting = and_l _ _ g7;
-      disconnected = and_l _ _ g8;
-      filled = and_l _ _ g9;
-      ended = not_true _ (and_r (leb l.filled 4) _ g9);
-    }
+parts l g = search rules
 
 pub whole : (l : Link) → Parts l → link_good l ≡ true
-whole l h = rw (h.kind, h.originator, h.attached, h.state, h.server, h.outcome, h.sender, h.granting, h.disconnected, h.filled, h.ended)
+whole l h = search rules
 
 -- ---- no link
 pub no_link_good : link_good no_link ≡ true
@@ -78,7 +52,7 @@ no_link_working = refl
 -- ---- party p's own end
 pub own_end_lem : (p : ℕ) (l : Link) → is_attached l ≡ true → l.originator ≡ p → own_end p l ≡ true
 unfolding own_end
-own_end_lem p l a o = and_true _ _ a (rw o (same_refl p))
+own_end_lem p l a o = and_from _ _ a (rw o (same_refl p))
 
 pub no_link_own : (p : ℕ) → own_end p no_link ≡ false
 unfolding own_end no_link
@@ -95,16 +69,12 @@ pub working_returned_not : (l : Link) → is_working l ≡ true → is_returned 
 working_returned_not l e = let r : l.state ≡ 1 = eqb-true l.state 1 e in rw r
 
 -- disconnected, or its server notified of it
-pub disconnected_not_whole : (l : Link) → is_disconnected l ≡ true → is_whole l ≡ false
-disconnected_not_whole l e = let r : l.disconnected ≡ 1 = eqb-true l.disconnected 1 e in rw r
-
 pub notified_not_whole : (l : Link) → is_notified l ≡ true → is_whole l ≡ false
 notified_not_whole l e = let r : l.disconnected ≡ 2 = eqb-true l.disconnected 2 e in rw r
 
 -- a good link that is returned has an outcome
 pub returned_ending : (l : Link) → link_good l ≡ true → is_returned l ≡ true → is_ending l.outcome ≡ true
-returned_ending l g r = let h = parts l g in or_cases (eqb l.outcome 0) _ h.outcome
-    (λ z. not_both (and_true _ _ r z) h.ended) (λ e. e)
+returned_ending l g r = search rules
 
 -- ---- a link with another end, sender, grant, disconnection or unread
 abbrev adjusted : Link → (attached sender granting disconnected : ℕ) → List ℕ → ℕ → Link
@@ -129,21 +99,6 @@ adjusted_good l a s g d f u c k = let h = parts l k in let n = c h in whole (adj
   ended = h.ended;
 })
 
--- it is alike, where the end and whether it is disconnected are the same
-adjusted_like : (l : Link) {a s g d f : ℕ} {u : List ℕ} → GoodChoices l a s g d f → a ≡ l.attached → eqb d 0 ≡ is_whole l → Like l (adjusted l a s g d u f)
-adjusted_like l {a} {s} {g} {d} {f} {u} c o w = record {
-  number' = refl;
-  kind' = refl;
-  originator' = refl;
-  attached' = o;
-  tx' = refl;
-  state' = refl;
-  server' = refl;
-  outcome' = refl;
-  whole' = w;
-  good' = adjusted_good l a s g d f u c;
-}
-
 -- it is shut, where the end is closed and the sender the same
 adjusted_shut : (l : Link) {a s g d f : ℕ} {u : List ℕ} → GoodChoices l a s g d f → eqb a 1 ≡ false → s ≡ l.sender → Shut l (adjusted l a s g d u f)
 adjusted_shut l {a} {s} {g} {d} {f} {u} c o r = record {
@@ -161,7 +116,7 @@ adjusted_shut l {a} {s} {g} {d} {f} {u} c o r = record {
 
 -- the originator's end closes
 pub closed_shut : (l : Link) → Shut l (closed l)
-closed_shut l = adjusted_shut l (λ h. (refl, h.sender, h.granting, h.disconnected, h.filled)) refl refl
+closed_shut l = search rules
 
 pub disconnected_link_shut : (l : Link) → Shut l (disconnected_link l)
 disconnected_link_shut l = adjusted_shut l (λ h. (refl, h.sender, refl, refl, refl)) refl refl
@@ -174,78 +129,24 @@ disconnected_link_left l = Left.shut (disconnected_link_shut l)
 
 -- alike but for what is unread, the grant and the sender
 pub dropped_like : (l : Link) → Like l (dropped l)
-dropped_like l = adjusted_like l (λ h. (h.attached, h.sender, refl, h.disconnected, refl)) refl refl
+dropped_like l = search rules
 
 pub notified_like : (l : Link) → is_disconnected l ≡ true → Like l (notified l)
-notified_like l c = adjusted_like l (λ h. (h.attached, h.sender, h.granting, refl, h.filled)) refl (sym (disconnected_not_whole l c))
+notified_like l c = search rules
 
 pub with_sent_like : (l : Link) (b c : ℕ) → leb b 1 ≡ true → ltb l.filled 4 ≡ true → Like l (with_sent l b c)
-with_sent_like l b c s r = adjusted_like l
-    (λ h. (h.attached, h.sender, s, h.disconnected, le-leb (l.filled + 1) 4 (let q = ltb-true l.filled 4 r in omega arith))) refl refl
+with_sent_like l b c s r = search rules
 
 pub without_oldest_like : (l : Link) (s g : ℕ) → (Parts l → leb s 1 ≡ true) → (Parts l → leb g 1 ≡ true) → Like l (without_oldest l s g)
-without_oldest_like l s g sg gg = adjusted_like l
-    (λ h. (h.attached, sg h, gg h, h.disconnected, le-leb (l.filled - 1) 4 (let q = leb-true l.filled 4 h.filled in omega arith))) refl refl
+without_oldest_like l s g sg gg = search rules
 
 -- ---- returned, with an outcome
 pub returned_back : (l : Link) (o e : ℕ) → is_working l ≡ true → is_ending o ≡ true → Back l (returned l o e)
-returned_back l o e w n = record {
-  number' = refl;
-  kind' = refl;
-  originator' = refl;
-  attached' = refl;
-  tx' = refl;
-  worked = w;
-  state' = refl;
-  server' = refl;
-  ending' = n;
-  sender' = refl;
-  whole' = refl;
-  good' = λ g. let h = parts l g in whole (returned l o e) (record {
-    kind = h.kind;
-    originator = h.originator;
-    attached = h.attached;
-    state = refl;
-    server = h.server;
-    outcome = rw (n, or_true (eqb o 0));
-    sender = h.sender;
-    granting = h.granting;
-    disconnected = h.disconnected;
-    filled = h.filled;
-    ended = ending-not-0 o n;
-  });
-}
-  where
-    ending-not-0 : (o : ℕ) → is_ending o ≡ true → eqb o 0 ≡ false
-    ending-not-0 o n = test (eqb o 0) (λ z. let r : o ≡ 0 = eqb-true o 0 z in not_both {b = is_ending 0} (rw r at n) refl) (λ z. z)
+returned_back l o e w n = search rules
 
 -- ---- taken by party p; made by party p
 pub working_good : (l : Link) (p : ℕ) → p < 16 → is_waiting l ≡ true → link_good l ≡ true → link_good (working l p) ≡ true
-working_good l p b w g = let h = parts l g in whole (working l p) (record {
-  kind = h.kind;
-  originator = h.originator;
-  attached = h.attached;
-  state = refl;
-  server = le-leb p 15 (omega arith);
-  outcome = h.outcome;
-  sender = h.sender;
-  granting = h.granting;
-  disconnected = h.disconnected;
-  filled = h.filled;
-  ended = refl;
-})
+working_good l p b w g = search rules
 
 pub new_link_good : (n k p at a t c s : ℕ) → p < 16 → leb k 1 ≡ true → leb at 1 ≡ true → leb s 1 ≡ true → link_good (new_link n k p at a t c s) ≡ true
-new_link_good n k p at a t c s b kg ag sg = whole (new_link n k p at a t c s) (record {
-  kind = kg;
-  originator = le-leb p 15 (omega arith);
-  attached = ag;
-  state = refl;
-  server = refl;
-  outcome = refl;
-  sender = sg;
-  granting = refl;
-  disconnected = refl;
-  filled = refl;
-  ended = refl;
-})
+new_link_good n k p at a t c s b kg ag sg = search rules

@@ -1,9 +1,6 @@
 -- What the walk over the kinds shows of each rule: the record's frame, the caller's own record, and the move with what it tells.
 -- Assumes nothing.
-use mathlib.Core.Path.{◌≡◌}
-use mathlib.Core.Bool.{true, false, cond, ◌&&◌, ◌||◌}
-use Prim.Native.Nat.{ℕ, suc}
-use lib.Dec.{eqb}
+use Rattle.std.proofs.Common.{◌≡◌, true, false, cond, ◌&&◌, ◌||◌, ℕ, suc, eqb}
 use Rattle.rules.specs.Choice.{same}
 use Rattle.rules.specs.Record.{is_opened, party, live}
 use Rattle.rules.specs.Transaction.{deadline_of}

@@ -1,18 +1,14 @@
 -- A party has left: what that is, of the record before and after, and that the rules' steps come to it.
 -- Assumes nothing.
-use mathlib.Core.Path.{◌≡◌, refl, sym, ap, ◌∙◌}
-use mathlib.Core.Bool.{Bool, true, false, ◌||◌}
-use Prim.Native.Nat.{ℕ, ◌<◌}
-use lib.Dec.{eqb}
-use lib.ListN.{get_or}
-use borrow.Author.Tests.{eqb-true}
+use Rattle.std.proofs.Common.{◌≡◌, refl, sym, ap, ◌∙◌, Bool, true, false, ◌||◌, ℕ, ◌<◌, eqb, get_or, rules}
+use Rattle.std.proofs.Math.Bool.{or-false}
 use Rattle.rules.specs.Choice.{same}
 use Rattle.rules.specs.Record.{fresh_party, is_rollback_only, is_attached, is_waiting, is_working, is_ending, party, live, link_of, serving, with_party, changed}
 use Rattle.rules.specs.Return.{unread_after, rollback_only_served, serves_none, hand_back, leave}
 use Rattle.rules.specs.declared.Link.{Link}
 use Rattle.rules.specs.declared.Party.{Party}
 use Rattle.rules.specs.declared.Monitor.{Monitor}
-use Rattle.rules.proofs.Logic.{test, not_both, same_true, same_false, or_cases, or_false, Nz, by_number}
+use Rattle.rules.proofs.Logic.{test, not_both, same_true, same_false, Nz, by_number}
 use Rattle.rules.proofs.Fine.{look, Frame, Fine}
 use Rattle.rules.proofs.Looks.{look_number, link_of_tx, link_of_served, served_there}
 use Rattle.rules.proofs.Parties.{party_same, party_other, party_frame, Marks, marks_owned}
@@ -84,10 +80,10 @@ is_bad o = eqb o 2 || eqb o 4
 
 -- an outcome is failed just where it is not 8
 bad_8 : (o : ℕ) → is_bad o ≡ true → eqb o 8 ≡ false
-bad_8 o h = or_cases (eqb o 2) (eqb o 4) h (λ e. let i = eqb-true o 2 e in rw i) (λ e. let i = eqb-true o 4 e in rw i)
+bad_8 o h = search rules
 
 not_8_bad : (o : ℕ) → is_ending o ≡ true → eqb o 8 ≡ false → is_bad o ≡ true
-not_8_bad o h n = rw (n, or_false (eqb o 4)) at h
+not_8_bad o h n = rw (n, or-false (eqb o 4)) at h
 
 module _ (m : Monitor) (fi : Fine m) (p : ℕ) (b : p < 16) (s : Nz (party m p).served) (o e : ℕ) (n : is_ending o ≡ true) where
   -- the link that it serves, its transaction, and the steps

@@ -1,9 +1,6 @@
 -- What is left of a link as party p's own ends close and its transaction t (0: it has none) ends, and as the link that it served goes back.
 -- Assumes nothing.
-use mathlib.Core.Path.{◌≡◌, refl, sym, ◌∙◌}
-use mathlib.Core.Bool.{true, false, ◌||◌}
-use Prim.Native.Nat.{ℕ}
-use lib.Dec.{eqb}
+use Rattle.std.proofs.Common.{◌≡◌, refl, sym, ◌∙◌, true, false, ◌||◌, ℕ, eqb, rules}
 use Rattle.rules.specs.Choice.{pick, same}
 use Rattle.rules.specs.Record.{is_attached, is_waiting, is_working, is_ending, own_end, returned}
 use Rattle.rules.specs.Return.{close_end, unread_after}
@@ -122,20 +119,7 @@ unread_sender o l = by_test (λ (x : Link). x.sender ≡ l.sender) (λ _. refl) 
 
 -- alike, and then returned
 like_back : (l x y : Link) → Like l x → x.sender ≡ l.sender → Back x y → Back l y
-like_back l x y k s b = record {
-  number' = b.number' ∙ k.number';
-  kind' = b.kind' ∙ k.kind';
-  originator' = b.originator' ∙ k.originator';
-  attached' = b.attached' ∙ k.attached';
-  tx' = b.tx' ∙ k.tx';
-  worked = rw (← k.state') b.worked;
-  state' = b.state';
-  server' = b.server' ∙ k.server';
-  ending' = b.ending';
-  sender' = b.sender' ∙ s;
-  whole' = b.whole' ∙ k.whole';
-  good' = λ g. b.good' (k.good' g);
-}
+like_back l x y k s b = search rules
 
 module _ (p t o e : ℕ) (l : Link) (w : is_working l ≡ true) (n : is_ending o ≡ true) where
   abbrev kept : Link

@@ -1,11 +1,6 @@
 -- The walk over kinds 15 and 16: replies fetched and given up.
 -- Assumes nothing.
-use mathlib.Core.Path.{◌≡◌, refl, sym}
-use mathlib.Core.Bool.{true, false, cond}
-use Prim.Native.Nat.{ℕ, ◌<◌}
-use lib.Dec.{eqb}
-use lib.ListN.{get_or}
-use borrow.Author.Tests.{eqb-true, ltb-true}
+use Rattle.std.proofs.Common.{◌≡◌, refl, sym, true, false, cond, ℕ, ◌<◌, eqb, get_or, eqb-true, ltb-true}
 use Rattle.rules.specs.Codes.{bad_argument, no_such_end, in_transaction, timed_out, no_reply_yet}
 use Rattle.rules.specs.Record.{fresh_link, is_attached, is_request, is_returned, own_end, live, link_of}
 use Rattle.rules.specs.Record.{changed, removed, closed, valued}

@@ -1,13 +1,8 @@
 -- The walk over kinds 12 to 14: links made and taken; what a link that is looked up, changed or gone leaves.
 -- Assumes nothing.
-use mathlib.Core.Path.{◌≡◌, refl, sym, ap, subst, ◌∙◌}
-use mathlib.Core.Bool.{Bool, true, false, not, ◌&&◌, ◌||◌}
-use Prim.Native.Nat.{ℕ, suc, ◌+◌, ◌<◌}
-use native.Mathlib.Numerals.{add-one}
-use native.Mathlib.Omega.{arith}
-use lib.Dec.{eqb, leb, ltb}
-use lib.ListN.{get_or}
-use borrow.Author.Tests.{eqb-true, eqb-false, leb-true, ltb-true}
+use Rattle.std.proofs.Common.{◌≡◌, refl, sym, ap, subst, ◌∙◌, Bool, true, false, not, ◌&&◌, ◌||◌, ℕ, suc}
+use Rattle.std.proofs.Common.{◌+◌, ◌<◌, add-one, eqb, leb, ltb, get_or, eqb-true, ltb-true, rules}
+use Rattle.std.proofs.lemmas.Bool.{not-true}
 use Rattle.rules.specs.Choice.{pick, same}
 use Rattle.rules.specs.Codes.{bad_argument, not_allowed_now, not_offered, no_room_left, timed_out, nothing_waiting, not_permitted}
 use Rattle.rules.specs.Record.{fresh_link, is_attached, is_waiting, is_working, own_end, party, live, link_of, with_party, replaced}
@@ -22,7 +17,7 @@ use Rattle.rules.specs.declared.Link.{Link}
 use Rattle.rules.specs.declared.Monitor.{Monitor}
 use Rattle.rules.specs.declared.Party.{Party}
 use Rattle.rules.specs.declared.Ruled.{Ruled}
-use Rattle.rules.proofs.Logic.{by_test, test, not_both, pick_true, pick_false, same_true, same_ne, and_l, and_r, not_true, Nz, zero_nz, suc_nz}
+use Rattle.rules.proofs.Logic.{by_test, test, not_both, pick_true, pick_false, same_true, same_ne, and_l, and_r, Nz, zero_nz, suc_nz}
 use Rattle.rules.proofs.Fine.{no_link, tx_p, look, Frame, Fine}
 use Rattle.rules.proofs.Looks.{look_number, there, look_next, link_of_look, tx_of_tx_p, any_none}
 use Rattle.rules.proofs.Parties.{party_frame, live_owner_lem, owned_none}
@@ -83,7 +78,7 @@ unfolding is_idle
 idling m p e =
     let s = and_r (eqb (party m p).opened 1) _ e in
     let t = and_r (eqb (party m p).served 0) _ s in
-    let n = not_true _ (and_r (eqb (tx_of m p) 0) _ t) in
+    let n = not-true _ (and_r (eqb (tx_of m p) 0) _ t) in
     record {
       served = eqb-true _ 0 (and_l _ _ s);
       owned = owned_none m p (eqb-true _ 0 (and_l _ _ t));
@@ -156,7 +151,7 @@ module _ (m : Monitor) (c : Call) (fine : Fine m) (pb : c.party < 16) (kinds : e
   made_link t = new_link (m.lastlink + 1) kd c.party at a t x s
 
   kinds_timeless : (k : ℕ) → eqb k 12 || eqb k 13 ≡ true → is_timed k ≡ false
-  kinds_timeless k e = test (eqb k 12) (λ z. let r : k ≡ 12 = eqb-true k 12 z in rw r) (λ z. let r : k ≡ 13 = eqb-true k 13 (rw z at e) in rw r)
+  kinds_timeless k e = search rules
 
   module _ (t : ℕ) (room : m.count < 32) (left : m.lastlink < 60000) where
     number_is : (made_link t).number ≡ suc m.lastlink
@@ -213,22 +208,14 @@ module _ (m : Monitor) (c : Call) (fine : Fine m) (pb : c.party < 16) (kinds : e
   unfolding ask_link made_link
   link_moved =
       ask_moved (λ _. ask_moved (λ en. ask_moved (λ _. ask_moved (λ _. ask_moved
-      (λ r. making (ltb-true _ 32 (and_l _ _ r)) (ltb-true _ 60000 (and_r (ltb m.count 32) _ r)) (not_true _ en))
+      (λ r. making (ltb-true _ 32 (and_l _ _ r)) (ltb-true _ 60000 (and_r (ltb m.count 32) _ r)) (not-true _ en))
       (λ _. refused no_room_left refl fine)) (λ _. refused not_offered refl fine)) (λ _. refused timed_out refl fine)) (λ _. refused not_allowed_now refl fine))
       (λ _. refused not_permitted refl fine)
 
 -- in a transaction and without flag 2, a request's flags are 0
 no_flags : (b t : ℕ) → leb b 3 && not (is_bare_no_reply b && not (eqb t 0)) ≡ true → no_tran b ≡ false → Nz t → no_reply b ≡ false
 unfolding same
-no_flags b t e f n =
-    test (eqb b 0) (λ q. at-number 0 q refl) λ n0.
-    test (eqb b 1) (λ q. not_both {b = is_bare_no_reply b && not (eqb t 0)} (rw (q, n)) (not_true _ (and_r (leb b 3) _ e))) λ n1.
-    test (eqb b 2) (λ q. at-number 2 q refl) λ n2.
-    test (eqb b 3) (λ q. let r : b ≡ 3 = eqb-true b 3 q in not_both {b = no_tran 3} refl (rw r at f)) λ n3.
-    absurd (let l = leb-true b 3 (and_l _ _ e) in let a0 = eqb-false b 0 n0 in let a1 = eqb-false b 1 n1 in let a2 = eqb-false b 2 n2 in let a3 = eqb-false b 3 n3 in omega arith)
-  where
-    at-number : (k : ℕ) → eqb b k ≡ true → no_reply k ≡ false → no_reply b ≡ false
-    at-number k q h = let r : b ≡ k = eqb-true b k q in rw r h
+no_flags b t e f n = search rules
 
 pub request_moved : (m : Monitor) (c : Call) → Fine m → c.party < 16 → c.kind ≡ 12 → Moved m c (request_of m c.party c.a c.b c.c)
 unfolding request_of

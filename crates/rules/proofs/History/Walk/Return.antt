@@ -1,9 +1,7 @@
 -- Kinds 20 and 21: a party that has left makes the move `leaves`; so do a return and a death.
 -- Assumes nothing.
-use mathlib.Core.Path.{◌≡◌, refl, sym, ap, ◌∙◌}
-use mathlib.Core.Bool.{Bool, true, false, ◌||◌}
-use Prim.Native.Nat.{ℕ, ◌<◌}
-use lib.Dec.{eqb}
+use Rattle.std.proofs.Common.{◌≡◌, refl, sym, ap, ◌∙◌, Bool, true, false, ◌||◌, ℕ, ◌<◌, eqb}
+use Rattle.std.proofs.lemmas.Bool.{not-true}
 use Rattle.rules.specs.Choice.{pick, same}
 use Rattle.rules.specs.Codes.{bad_argument, not_allowed_now}
 use Rattle.rules.specs.Lists.{any_of}
@@ -15,7 +13,7 @@ use Rattle.rules.specs.declared.Call.{Call}
 use Rattle.rules.specs.declared.Link.{Link}
 use Rattle.rules.specs.declared.Monitor.{Monitor}
 use Rattle.rules.specs.declared.Party.{Party}
-use Rattle.rules.proofs.Logic.{by_test, test, not_both, not_true, pick_true, same_refl, same_true, same_false, same_ne, Nz, zero_nz, by_number, nz_other}
+use Rattle.rules.proofs.Logic.{by_test, test, not_both, pick_true, same_refl, same_true, same_false, same_ne, Nz, zero_nz, by_number, nz_other}
 use Rattle.rules.proofs.Fine.{look, Fine}
 use Rattle.rules.proofs.Looks.{look_zero, any_one}
 use Rattle.rules.proofs.Parties.{marks_owned, marks_served, marks_grow, none_good, marks_good, Cleared, fresh_choices}
@@ -168,7 +166,7 @@ module _ (m : Monitor) (c : Call) (fi : Fine m) (b : c.party < 16) where
   unfolding return_of return_with same
   return_moved k = ask_moved
       (λ s. ask_moved
-      (λ _. left_moved k (not_true _ s) _ _ (outcome_ends m c.party c.a c.c _)
+      (λ _. left_moved k (not-true _ s) _ _ (outcome_ends m c.party c.a c.c _)
       (λ i o r. ap is_bad (outcome_open m c.party c.a c.c _ i o r)))
       (λ _. refused bad_argument refl fi))
       (λ _. refused not_allowed_now refl fi)

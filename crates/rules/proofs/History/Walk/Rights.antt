@@ -1,11 +1,6 @@
 -- The walk over kind 23: a party's set of services is replaced.
 -- Assumes nothing.
-use mathlib.Core.Path.{◌≡◌, refl}
-use mathlib.Core.Bool.{true}
-use Prim.Native.Nat.{ℕ, ◌<◌}
-use native.Mathlib.Omega.{arith}
-use lib.Dec.{ltb}
-use borrow.Author.Tests.{ltb-true}
+use Rattle.std.proofs.Common.{◌≡◌, refl, true, ℕ, ◌<◌, arith, ltb, ltb-true, rules}
 use Rattle.rules.specs.Codes.{bad_argument, not_permitted}
 use Rattle.rules.specs.Record.{party, with_rights}
 use Rattle.rules.specs.Sound.{choices_good}
@@ -19,7 +14,7 @@ use Rattle.rules.proofs.History.Walk.Moved.{Stays, Moved}
 use Rattle.rules.proofs.History.Walk.Base.{ask_moved, refused, moved_party}
 
 rights_stay : (x : Party) (r a : ℕ) → Stays x (with_rights x r a)
-rights_stay x r a = record { opened' = refl; timeout' = refl; owned' = refl; deadline' = refl; served' = refl; reports' = refl }
+rights_stay x r a = search rules
 
 granted_stays : (x : Party) (a s : ℕ) → Stays x (granted x a s)
 unfolding granted

@@ -1,11 +1,7 @@
 -- What an answer says: past question 21, of 20 and 21 a value only where accepted, what it tells by its kind, and the caller's timeout after it.
 -- Assumes nothing.
-use mathlib.Core.Path.{◌≡◌, refl}
-use mathlib.Core.Bool.{Bool, true, false, cond, not, ◌&&◌, ◌||◌}
-use Prim.Native.Nat.{ℕ}
-use lib.Dec.{eqb, leb}
-use lib.IntN.{ℤ, pos}
-use borrow.Author.Tests.{eqb-true, ne_eqb}
+use Rattle.std.proofs.Common.{◌≡◌, refl, Bool, true, false, cond, not, ◌&&◌, ◌||◌, ℕ, eqb, leb, ℤ, pos, eqb-true, ne_eqb, rules}
+use Rattle.std.proofs.Math.Bool.{and-false, and-true}
 use Rattle.rules.specs.Choice.{same}
 use Rattle.rules.specs.Record.{is_ending}
 use Rattle.rules.specs.Transaction.{tx_of}
@@ -13,8 +9,7 @@ use Rattle.rules.specs.Step.{answered_to}
 use Rattle.rules.specs.History.{of_kind, same_code, unheard, answered_by, with_value, with_event, accepted, past21, replied, link_on, flag2, ends_in}
 use Rattle.rules.specs.declared.Call.{Call}
 use Rattle.rules.specs.declared.Ruled.{Ruled}
-use Rattle.rules.proofs.Logic.{not_both, Nz, or_l, or_r, or_cases, and_yes, and_false, and_l, and_r, not_true, cond_same}
-use Rattle.rules.proofs.AnswerCodes.{of_code}
+use Rattle.rules.proofs.Logic.{not_both, Nz, or_cases, and_l, and_r}
 use Rattle.rules.proofs.History.Tells.{Tell, nothing, sent, given, made, taken, finished, disconnected, left, ending_event, tell_of, Valueless}
 use Rattle.rules.proofs.History.Walk.Moved.{event_of, time_after}
 
@@ -48,11 +43,7 @@ pub record Says (c : Call) (r : Ruled) (t : Tell) : Type 0 where
   pub tells : tell_of (event_of c r) ≡ t
 
 fetched_past : (z : ℤ) → is_fetched z ≡ true → is_past z ≡ true
-fetched_past z h = or_cases (same_code (pos 0) z) _ h (of_code Past (pos 0) z refl)
-    (λ i. or_cases (same_code (pos 30) z) _ i (of_code Past (pos 30) z refl) (of_code Past (pos 31) z refl))
-  where
-    Past : ℤ → Type 0
-    Past z = is_past z ≡ true
+fetched_past z h = search rules
 
 module _ (c : Call) (r : Ruled) where
   -- ---- the value: by the code, the value, and the kind
@@ -71,25 +62,14 @@ module _ (c : Call) (r : Ruled) where
   -- ---- nothing: by the code, and by the kind
   tells_silent : is_silent r.code ≡ true → tell_of (event_of c r) ≡ nothing
   unfolding tell_of ending_event event_of answered_to accepted answered_by replied
-  tells_silent h =
-      let n = not_true _ h in
-      let n29 = or_r (same_code (pos 0) r.code) _ n in
-      let n30 = or_r (same_code (pos 29) r.code) _ n29 in
-      let e0 = or_l (same_code (pos 0) r.code) _ n in
-      let e29 = or_l (same_code (pos 29) r.code) _ n29 in
-      let e30 = or_l (same_code (pos 30) r.code) _ n30 in
-      let e31 = or_r (same_code (pos 30) r.code) _ n30 in
-      rw (e0, e29, e30, e31) (simp cond_same)
+  tells_silent h = search rules
 
   pub says_quiet : r.value ≡ 0 → is_quiet r.code ≡ true → Says c r nothing
   says_quiet v z = says_valueless v (and_r (is_silent r.code) _ z) (tells_silent (and_l _ _ z))
 
   pub tells_plain : (k : ℕ) → c.kind ≡ k → is_plain k ≡ true → tell_of (event_of c r) ≡ nothing
   unfolding tell_of of_kind event_of
-  tells_plain k e h = rw (e, no 12 refl, no 13 refl, no 14 refl, no 15 refl, no 17 refl, no 18 refl, no 19 refl, no 20 refl, no 21 refl)
-    where
-      no : (j : ℕ) → is_plain j ≡ false → eqb k j ≡ false
-      no j n = ne_eqb k j (λ q. not_both h (rw q n))
+  tells_plain k e h = search rules
 
   -- ---- 12, 13
   -- a link of the caller's transaction
@@ -105,7 +85,7 @@ module _ (c : Call) (r : Ruled) where
 
   pub says_made_free : eqb c.kind 12 || eqb c.kind 13 ≡ true → r.code ≡ pos 0 → tx_of r.monitor c.party ≡ 0 → Says c r nothing
   unfolding tell_of of_kind event_of answered_to accepted answered_by ends_in
-  says_made_free k z t = says_accepted z (rw (k, z, t, and_false (not (flag2 c.b))))
+  says_made_free k z t = says_accepted z (rw (k, z, t, and-false (not (flag2 c.b))))
 
   -- ---- 14
   pub says_taken : c.kind ≡ 14 → r.code ≡ pos 0 → Says c r (taken r.value)
@@ -116,7 +96,7 @@ module _ (c : Call) (r : Ruled) where
   -- link d is the one that the value names, or by b the one asked for
   pub says_fetched : c.kind ≡ 15 → is_fetched r.code ≡ true → (d : ℕ) → cond (eqb c.b 1) r.value c.a ≡ d → Says c r (finished d)
   unfolding tell_of of_kind event_of answered_to answered_by replied link_on
-  says_fetched k z d e = says_by_kind (rw k) (fetched_past r.code z) (rw (k, z, and_yes (eqb c.b 1), e))
+  says_fetched k z d e = says_by_kind (rw k) (fetched_past r.code z) (rw (k, z, and-true (eqb c.b 1), e))
 
   -- ---- 16
   pub says_cancelled : c.kind ≡ 16 → r.code ≡ pos 0 → Says c r nothing
@@ -165,7 +145,7 @@ module _ (c : Call) (r : Ruled) where
 
   pub time_kept : (x k : ℕ) → c.kind ≡ k → is_timed k ≡ false → time_after (event_of c r) x ≡ x
   unfolding time_after event_of answered_to of_kind accepted answered_by
-  time_kept x k e h = rw (e, or_l (eqb k 9) _ h, or_r (eqb k 9) _ h, and_false (same_code (pos 0) r.code))
+  time_kept x k e h = search rules
 
   pub time_set : (x : ℕ) → c.kind ≡ 9 → r.code ≡ pos 0 → time_after (event_of c r) x ≡ c.a
   unfolding time_after event_of answered_to of_kind accepted answered_by
@@ -173,4 +153,4 @@ module _ (c : Call) (r : Ruled) where
 
   pub time_none : (x : ℕ) → eqb c.kind 2 || eqb c.kind 21 ≡ true → r.code ≡ pos 0 → time_after (event_of c r) x ≡ 0
   unfolding time_after event_of answered_to of_kind accepted answered_by
-  time_none x k z = or_cases (eqb c.kind 2) _ k (λ a. rw (eqb-true c.kind 2 a, z)) (λ a. rw (eqb-true c.kind 21 a, z))
+  time_none x k z = search rules

@@ -1,8 +1,6 @@
 -- The walk over kinds 10 and 11: a party offers a service, and no longer does.
 -- Assumes nothing.
-use mathlib.Core.Path.{◌≡◌, refl}
-use mathlib.Core.Bool.{true, false}
-use Prim.Native.Nat.{ℕ, ◌<◌}
+use Rattle.std.proofs.Common.{◌≡◌, refl, true, false, ℕ, ◌<◌}
 use Rattle.rules.specs.Codes.{bad_argument, not_offered, no_room_left, not_permitted}
 use Rattle.rules.specs.Record.{party, offering}
 use Rattle.rules.specs.Services.{offered, offers_now, advertise_of, unadvertise_of}

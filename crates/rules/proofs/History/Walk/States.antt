@@ -1,11 +1,7 @@
 -- The TX state table in the walk: what a state says of its party, what each call's next state is, and entering one.
 -- Assumes nothing.
-use mathlib.Core.Path.{◌≡◌, refl, ap, ◌∙◌}
-use mathlib.Core.Bool.{true, false, not, ◌||◌}
-use Prim.Native.Nat.{ℕ, ◌+◌, ◌<◌}
-use native.Mathlib.Omega.{arith}
-use lib.Dec.{eqb, leb}
-use borrow.Author.Tests.{eqb-true, ne_eqb}
+use Rattle.std.proofs.Common.{◌≡◌, refl, ap, ◌∙◌, true, false, not, ◌||◌, ℕ, ◌+◌, ◌<◌, arith, eqb, leb, eqb-true, ne_eqb}
+use Rattle.std.proofs.lemmas.Bool.{and_from}
 use Rattle.rules.specs.Choice.{pick}
 use Rattle.rules.specs.Record.{is_opened, party}
 use Rattle.rules.specs.Transaction.{tx_of}
@@ -13,7 +9,7 @@ use Rattle.rules.specs.States.{state_of, is_blank, next_of, in_state, entered}
 use Rattle.rules.specs.Sound.{choices_good}
 use Rattle.rules.specs.declared.Monitor.{Monitor}
 use Rattle.rules.specs.declared.Party.{Party}
-use Rattle.rules.proofs.Logic.{by_test, test, pick_false, pick_no, not_both, and_r, and_true}
+use Rattle.rules.proofs.Logic.{by_test, test, pick_false, pick_no, not_both, and_r}
 use Rattle.rules.proofs.Fine.{Frame}
 use Rattle.rules.proofs.Parties.{party_frame}
 use Rattle.rules.proofs.History.Walk.Base.{OwnOnly, own_set, own_then}
@@ -40,16 +36,14 @@ pub state_free : {m : Monitor} {p s : ℕ} → State m p s → eqb s 1 || eqb s 
 state_free (shut n) h = not_both h refl
 state_free (free t) h = t
 state_free (free_chained t) h = t
-state_free busy h = not_both h refl
-state_free busy_chained h = not_both h refl
+state_free _ h = not_both h refl
 
 -- S0 to S2, of an opened party
 pub state_low : {m : Monitor} {p s : ℕ} → State m p s → leb s 2 ≡ true → is_opened (party m p) ≡ true → tx_of m p ≡ 0
 state_low (shut n) h o = not_both o n
 state_low (free t) h o = t
 state_low (free_chained t) h o = t
-state_low busy h o = not_both h refl
-state_low busy_chained h o = not_both h refl
+state_low _ h o = not_both h refl
 
 -- ---- the next state
 -- open
@@ -96,9 +90,9 @@ next_control s a = ne_eqb (next_of 8 s + a) 0 (λ z. some s (omega arith))
 -- ---- entering a state
 pub in_good : (x : Party) (s : ℕ) → choices_good x ≡ true → choices_good (in_state x s) ≡ true
 unfolding in_state
-in_good x s g = and_true _ _
+in_good x s g = and_from _ _
     (by_test (λ n. leb n 1 ≡ true) (λ _. refl) (λ _. refl))
-    (and_true _ _ (by_test (λ n. leb n 1 ≡ true) (λ _. refl) (λ _. by_test (λ n. leb n 1 ≡ true) (λ _. refl) (λ _. refl)))
+    (and_from _ _ (by_test (λ n. leb n 1 ≡ true) (λ _. refl) (λ _. by_test (λ n. leb n 1 ≡ true) (λ _. refl) (λ _. refl)))
     (and_r (leb x.control 1) _ (and_r (leb x.opened 1) _ g)))
 
 pub in_opened : (x : Party) (s : ℕ) → eqb s 0 ≡ false → is_opened (in_state x s) ≡ true

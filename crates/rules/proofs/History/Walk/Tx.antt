@@ -1,15 +1,6 @@
 -- The walk over kinds 1 to 9: the TX calls.
 -- Assumes nothing.
-use mathlib.Core.Path.{◌≡◌, refl, sym, ap, ◌∙◌}
-use mathlib.Core.Bool.{Bool, true, false}
-use mathlib.Core.List.{List}
-use Prim.Native.Nat.{ℕ, suc, ◌+◌, ◌<◌}
-use native.Mathlib.Omega.{arith}
-use lib.Dec.{eqb, leb}
-use lib.IntN.{ℤ}
-use lib.ListN.{length-set}
-use lib.Seq.{set-set}
-use borrow.Author.Tests.{ltb-true}
+use Rattle.std.proofs.Common.{◌≡◌, refl, sym, ap, ◌∙◌, Bool, true, false, List, ℕ, suc, ◌+◌, ◌<◌, arith, eqb, leb, ℤ, set-set, rules}
 use Rattle.rules.specs.Choice.{pick, same}
 use Rattle.rules.specs.Codes.{tx_ok, tx_not_supported, tx_info_outside, tx_info_inside, tx_protocol_error, tx_error, tx_einval, no_begin}
 use Rattle.rules.specs.Record.{party, live, with_party, ruled, valued, with_timeout, owning, owning_none}
@@ -130,13 +121,7 @@ module _ (m : Monitor) (fr : Frame m) (p : ℕ) (b : p < 16) where
 
   begin_frame : tx_left m ≡ true → Frame (begin_tx m p)
   unfolding begin_tx
-  begin_frame h = record {
-    shape = record { parties16 = length-set m.parties p (begun m p) ∙ fr.shape.parties16; links32 = fr.shape.links32 };
-    count32 = fr.count32;
-    last_link = fr.last_link;
-    last_tx = let l = ltb-true m.lasttx 60000 h in omega arith;
-    rising = fr.rising;
-  }
+  begin_frame h = search rules
 
   -- it begins one and enters the state s
   begun_own : tx_left m ≡ true → (s : ℕ) → OwnOnly m (entered (begin_tx m p) p s) p (in_state (begun m p) s)

@@ -1,10 +1,6 @@
 -- The walk over kind 22: a manager's report.
 -- Assumes nothing.
-use mathlib.Core.Path.{◌≡◌, refl, sym}
-use mathlib.Core.Bool.{true}
-use Prim.Native.Nat.{ℕ, ◌≤◌, ◌<◌}
-use lib.Dec.{leb}
-use borrow.Author.Tests.{leb-true}
+use Rattle.std.proofs.Common.{◌≡◌, refl, sym, true, ℕ, ◌≤◌, ◌<◌, leb, leb-true}
 use Rattle.rules.specs.Codes.{not_allowed_now, bad_report}
 use Rattle.rules.specs.Record.{party, reporting, with_party, valued}
 use Rattle.rules.specs.Sound.{choices_good}
