@@ -1,12 +1,13 @@
 // Numbers and lines, put into a lent buffer. Each function takes the place where its text begins and gives the place behind it.
-// Tried, and slower: a struct of the buffer and the place (in Rust a line takes a quarter longer), and slices from the place on (3 in 100 more instructions
-// in the program).
+// A struct of the two, or slices from the place on, would be no plainer: each contract speaks of the whole buffer and of both places all the same. They were
+// slower, too (in Rust a line takes a quarter longer with the struct).
 ghost use Rattle.std.specs.Prelude.{◌+◌, ◌*◌, ◌/◌, ◌<◌, ◌≤◌, length};
 ghost use Rattle.listing.specs.Text.{sign, decimal, field, lines_of, refusal_line, Puts};
 
 use rules::codes;
 
-// A number's decimal digits. Tried in Rust, and slower: with the crate `itoa` a line takes half as long again, with `write!` over four times as long.
+// A number's decimal digits. No plainer: the crate `itoa` puts them into a buffer of its own, to be copied, and `write!` needs a writer over this one with
+// a contract of its own. Both were slower, too.
 // A digit is widened and narrowed by `as`, which is proved to lose nothing; `try_from` would ask what to put for a digit that is no byte.
 #[tactic(auto, using(crate::proofs::Digits::decimal_last, crate::proofs::Digits::decimal_more, crate::proofs::Digits::decimal_longer, crate::proofs::Puts::puts_none, crate::proofs::Puts::puts_byte))]
 fn put_digits(out: &mut [u8], at: usize, n: u64) -> usize

@@ -207,7 +207,7 @@ pub(crate) fn receive(s: &mut [u32; WORDS], p: PartyNumber, found: Found) -> Tol
     Told { token, ..accept(0) }
 }
 
-// Kind 18.
+// Kind 18. It begins as kind 17, which asks b in between and not of every return: one function of it would take both as closures.
 #[tactic(auto, unfolding(rules::specs::Conversations::receive_of, rules::specs::Conversations::receive_on, rules::specs::Conversations::any_end, rules::specs::Conversations::originator_end, rules::specs::Conversations::server_end, rules::specs::Record::own_end, rules::specs::Choice::pick))]
 pub(crate) fn tprecv(s: &mut [u32; WORDS], p: PartyNumber, a: u32) -> Result<Told, Refusal>
     requires { (view s.old).count ≤ 32 }

@@ -1,4 +1,5 @@
 // The drill file: calls as numbers in groups of seven bits, six to a call; reading one, running a file, writing one.
+// Answers lie six by six, as a host in C lends the places; a slice and a place in it are two arguments, as in `number`.
 ghost use Rattle.std.specs.Prelude.{◌≡◌, true};
 ghost use Rattle.rules.specs.Codes.{code_of};
 ghost use Rattle.rules.specs.Sound.{sound};
@@ -39,8 +40,8 @@ pub struct Passed {
     pub used: usize,
 }
 
-// The same, with the record after its calls, flat, as callers read it. The code is a number as in C's struct, and stands beside values, since the calls
-// before a bad number were carried out.
+// The same, with the record after its calls. Flat: with a `Passed` inside, callers and contracts would read through it; made by `new`, since it takes two.
+// The code is a number as in C's struct, and stands beside values, since the calls before a bad number were carried out.
 #[derive(Clone, Copy)]
 pub struct FileRan {
     pub store: Store,
@@ -170,7 +171,7 @@ pub fn run_file(mut m: Store, input: &[u8], answers: &mut [i64]) -> FileRan
     FileRan::new(m, told)
 }
 
-// Why nothing is written; `file_written` gives document 01's code of each.
+// Why nothing is written; `file_written` gives document 01's code of each. No `Refusal`: whoever matches it has these arms alone.
 #[derive(Clone, Copy, Debug, PartialEq, Eq)]
 pub enum WriteError {
     // too little room at the place

@@ -121,7 +121,7 @@ pub(crate) fn tpacall(
     Ok(accept(if no_reply(b) { 0 } else { number }))
 }
 
-// Kind 13.
+// Kind 13. As kind 12: what the two share is shorter than a function of it with its contract.
 #[tactic(auto, unfolding(rules::specs::Requests::connect_of, rules::specs::Choice::pick))]
 pub(crate) fn tpconnect(
     s: &mut [u32; WORDS],

@@ -34,7 +34,7 @@ pub(crate) enum Outcome {
 }
 
 impl Outcome {
-    // Its number, in the record, in an event and in the value of a return.
+    // Its number, in the record, in an event and in the value of a return. No `From`: the name says which number it is.
     pub(crate) fn number(self) -> u32
         ensures { result ≡ outcome_number self }
     {
@@ -169,7 +169,8 @@ pub(crate) fn ending_of(o: Outcome, c: u32) -> u32
     }
 }
 
-// The link d is returned, or goes if the originator's end is closed.
+// The link d is returned, or goes if the originator's end is closed. d, o and e go by their letters, as in the rules: a struct of them would be taken
+// apart at once. The place, then the link, here and below: a function of both would give a pair.
 #[tactic(auto, unfolding(rules::specs::Return::hand_back, rules::specs::Record::link_of, rules::specs::Record::changed, rules::specs::Choice::pick))]
 pub(crate) fn hand_back(s: &mut [u32; WORDS], d: u32, o: Outcome, e: u32)
     requires { (view s.old).count ≤ 32 }

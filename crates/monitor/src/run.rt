@@ -1,4 +1,4 @@
-// A lent list of calls, six numbers to a call, with its list of answers.
+// A lent list of calls, six numbers to a call, with its list of answers, six places a call, as a host in C lends them.
 ghost use Rattle.std.specs.Prelude.{◌≡◌, true, ◌++◌, ◌+◌, ◌*◌, ◌≤◌, length, take, drop};
 ghost use Rattle.rules.specs.Sound.{sound};
 ghost use Rattle.rules.specs.Run.{calls_in, places_of, ran_of, answers_of, listed, list_of};

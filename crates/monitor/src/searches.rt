@@ -24,7 +24,7 @@ fn first_place<F: Fn(usize) -> bool>(to: usize, test: F) -> Option<usize>
     None
 }
 
-// The place of the first link that passes the test, and no more: half of the callers ask where it is, or whether there is one.
+// The place of the first link that passes the test, and no more: most callers ask where it is, or whether there is one.
 #[inline]
 pub(crate) fn first_link<F: Fn(Link) -> bool>(s: &[u32; WORDS], test: F) -> Option<usize>
     requires room { (view s.now).count ≤ 32 }
@@ -41,7 +41,7 @@ pub(crate) fn first_link<F: Fn(Link) -> bool>(s: &[u32; WORDS], test: F) -> Opti
     )
 }
 
-// The lowest party that passes the test, as a number, with which the laws compare the rules' `owner_of`.
+// The lowest party that passes the test. A number: a `PartyNumber` would save one clause (of `is_late_at`), and laws would read its index.
 #[inline]
 pub(crate) fn first_party<F: Fn(Party) -> bool>(s: &[u32; WORDS], test: F) -> Option<usize>
     requires { F.IsAlwaysCallable test }

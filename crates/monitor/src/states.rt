@@ -26,7 +26,7 @@ pub(crate) enum State {
 }
 
 impl State {
-    // The column of the table: its place in the enum.
+    // The column of the table: its place in the enum. No `From`, here and below: the name says which number it is.
     fn number(self) -> usize
         ensures { result ≡ state_number self }
     {

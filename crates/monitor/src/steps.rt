@@ -82,9 +82,9 @@ pub(crate) fn tell(s: &[u32; WORDS], r: Result<Told, Refusal>, p: PartyNumber) -
     requires { (view s.now).count ≤ 32 }
     ensures { stepped result (view s.now) ≡ answered_to (ruled_by (told_of r) (view s.now)) p.index }
 {
-    // Field by field: a `From` would be as long, with a contract of its own.
     let told = r.unwrap_or_else(|why| coded(why.code()));
     let t = tx_of(s, p);
+    // Field by field: a `From` would be as long, with a contract of its own.
     Answer {
         code: told.code,
         value: told.value,

@@ -47,14 +47,14 @@ impl TryFrom<u32> for Reported {
 }
 
 impl Reported {
-    // Its number in a call, which is its place in the enum.
+    // Its number in a call, which is its place in the enum. No `From`, here and below: the name says which number it is.
     fn number(self) -> u32
         ensures { result ≡ kind_of self }
     {
         self as u32
     }
 
-    // As the record keeps it, with c = 1 where the manager can't start: C's number, which is asked here alone.
+    // As the record keeps it, with c = 1 where the manager can't start: C's number, asked here and in `report`.
     #[tactic(auto, unfolding(rules::specs::Votes::report_number, rules::specs::Choice::pick))]
     pub(crate) fn kept(self, c: u32) -> u32
         ensures { result ≡ report_number (kind_of self) c }

@@ -183,8 +183,8 @@ fn high(x: u64) -> u32
 }
 
 // ---- a party
-// The party p, by its place alone: soundness, equality, searches and `clear` go over all sixteen. Field by field, here and below, each at its place by name:
-// so `specs/Words` reads them.
+// The party p, by its place alone: soundness, equality, searches and `clear` go over all sixteen. Field by field, here and below, each at its place, as
+// `specs/Words` reads them: a pattern over the words would be as long.
 pub(crate) fn party_at(s: &[u32; WORDS], p: usize) -> Party
     requires { p < 16 }
     ensures { result ≡ party (view s.now) p }

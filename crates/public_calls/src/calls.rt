@@ -15,8 +15,8 @@ fn show_call(rt: &impl Print, call: Call) -> io::Result<()> {
     )
 }
 
-// What stands at a place; the place after it where it is a call, and else the place itself, which `show_write` reads again. Errors are printed as the codes that a file is refused with: their enums are
-// of other crates, so `Display` would need a wrapper for each, for two numbers.
+// What stands at a place; the place after it where it is a call, and else the place itself, which `show_write` reads again. Errors are printed as the
+// codes that a file is refused with: their enums are of other crates, so `Display` would need a wrapper for each, for two numbers.
 fn show_read(rt: &impl Print, name: &str, input: &[u8], place: usize) -> io::Result<usize> {
     print!(rt; "read_call {name} at {place}: ")?;
     match monitor::read_call(input, place) {
@@ -48,7 +48,8 @@ pub fn reads(rt: &HostRuntime) -> io::Result<()> {
     Ok(())
 }
 
-// The numbers of a file's calls, each of which takes a byte or more. Here alone a call becomes its six numbers, so no `From` stands for it.
+// The numbers of a file's calls, each of which takes a byte or more; the next place is what `read_call` tells. Here alone a call becomes its six numbers,
+// so no `From` stands for it.
 pub fn numbers(rt: &HostRuntime, input: &[u8]) -> Result<Vec<u32>, AllocError> {
     let mut list = Vec::new(rt.alloc());
     let mut at = 0;

@@ -1,6 +1,6 @@
 // The numbers of answers that are no refusals, and of events, flags and returns, by meaning: a name for each place that answers one, as specs/Codes has
 // them. Refusals are in `Refusal`. TPESVCFAIL and TPESVCERR have no name: they come of a sum (replies::outcome_code of monitor).
-// Numbers and no enums: they come in C's fields, or go into them, and one such field has events, outcomes and flags alike.
+// Numbers and no enums: they come in C's fields, or go into them, and one such field has events and outcomes alike.
 
 // ---- TX (document 002)
 pub const TX_OK: i64 = 0;

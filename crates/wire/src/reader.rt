@@ -8,7 +8,7 @@ use super::sequence::{Request, request_of};
 use arrayvec::ArrayVec;
 use rules::{Refusal, is_service};
 
-// Why no request is read.
+// Why no request is read. No `Refusal`: whoever matches it has these arms alone.
 #[derive(Clone, Copy, Debug, PartialEq, Eq)]
 pub enum ReadError {
     // a number is cut short

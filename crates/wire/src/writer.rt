@@ -7,7 +7,7 @@ use super::sequence::{Request, is_writable, put_sequence};
 use number::NoRoom;
 use rules::Refusal;
 
-// Why no request is written.
+// Why no request is written. No `Refusal`: whoever matches it has these arms alone.
 #[derive(Clone, Copy, Debug, PartialEq, Eq)]
 pub enum WriteError {
     // the request cannot be written
