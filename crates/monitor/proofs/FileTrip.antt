@@ -20,10 +20,6 @@ module _ (buffer : List ℕ) (place : ℕ) (calls : List ℕ) where
     unfolding file_answer whole_calls
     unfinished_answer = sym (pick_false _ _ _ (ne_eqb _ _ h))
 
-    pub unfinished_buffer : buffer ≡ file_buffer buffer place calls
-    unfolding file_buffer whole_calls
-    unfinished_buffer = sym (pick_false _ _ _ (ne_eqb _ _ h))
-
   module _ (h : length calls % 6 ≡ 0) where
     pub finished_answer : write_answer buffer place (numbers_bytes calls) ≡ file_answer buffer place calls
     unfolding file_answer whole_calls

@@ -1,7 +1,7 @@
 -- Whether a transaction has ended or expired, by its owner; and whether a link of it is open.
 -- Assumes nothing.
-use Rattle.std.proofs.Common.{Option, IfSome, is_some, ℕ, zero, suc, ◌+◌, ◌≤◌, ◌<◌, ◌≡◌, refl, ap, sym, subst, ◌∙◌, Bool}
-use Rattle.std.proofs.Common.{not, ◌&&◌, ◌||◌, List, [], ◌∷◌, drop, arith, ltb-true, ltb-false, eqb, ltb, length}
+use Rattle.std.proofs.Common.{Option, is_some, ℕ, zero, suc, ◌+◌, ◌≤◌, ◌≡◌, refl, ap, sym, ◌∙◌, Bool}
+use Rattle.std.proofs.Common.{not, ◌&&◌, ◌||◌, List, [], ◌∷◌, drop, arith, ltb-false, eqb, ltb, length}
 use Rattle.std.specs.List.{list_any, range_with_len}
 use Rattle.std.proofs.Math.ListN.{get_or-eq_default}
 use Rattle.rules.specs.declared.Link.{Link}
@@ -13,18 +13,7 @@ use Rattle.monitor.specs.View.{view, link_in, place_among, live_owner, late_at, 
 use Rattle.monitor.proofs.Laws.{parties_long, next_live, end_live}
 use Rattle.monitor.proofs.Search.{party_there}
 
-among : (n k : ℕ) → IfSome (place_among n k) (λ p. p < n)
-among n k = test (ltb k n)
-    (λ t. subst (λ (o : Option ℕ). IfSome o (λ p. p < n)) (sym (pick_true _ _ _ t)) (ltb-true k n t))
-    (λ t. subst (λ (o : Option ℕ). IfSome o (λ p. p < n)) (sym (pick_false _ _ _ t)) tt)
-
 module _ (xs : List ℕ) (t : ℕ) {o : Option ℕ} (e : o ≡ live_owner (view xs).parties t) where
-  -- it is one of the parties
-  pub owner_among : IfSome o (λ p. p < 16)
-  owner_among = subst (λ (o : Option ℕ). IfSome o (λ p. p < 16)) (sym e) (test (eqb t 0)
-      (λ z. subst (λ (o : Option ℕ). IfSome o (λ p. p < 16)) (sym (pick_true _ _ _ z)) tt)
-      (λ n. subst (λ (o : Option ℕ). IfSome o (λ p. p < 16)) (sym (pick_false _ _ _ n)) (among 16 (owner_of (view xs).parties t))))
-
   pub ended_by : ended (view xs) t ≡ not (eqb t 0) && not (is_some o)
   unfolding ended
   ended_by = test (eqb t 0)
