@@ -1,5 +1,6 @@
-//! The wrong rules of `crates/rules/must-fail`. The feature `faults` plants
-//! them in the monitor, one on at a time; without it none is ever on.
+//! The wrong rules of `crates/rules/must-fail`, and one of `crates/monitor`. The
+//! feature `faults` plants them in the monitor, one on at a time; without it none
+//! is ever on.
 
 macro_rules! faults {
     ($($name:ident,)*) => {
@@ -30,6 +31,8 @@ faults! {
     DeathMarksNothing,
     DisconnectMarksNothing,
     EarlyFetchRemovesLink,
+    EndedSuccessIsLost,
+    ExpiredSuccessStays,
     FailMarksNothing,
     FailedReturnMarksNothing,
     FallResetsRights,
@@ -39,12 +42,19 @@ faults! {
     HalvesExchanged,
     HazardIsGood,
     LinkNumbersReused,
+    LostByOwnTx,
+    LostConversationStays,
+    LostFailIsError,
+    LostRequestStays,
+    LostSuccessStays,
+    MarkedAtFetch,
     NewEndSendsEarly,
     NonOwnerCommits,
     PartyByRemainder,
     ReportsStay,
     RightAfterOffered,
     RollbackOnlyLeavesNoMark,
+    RollbackOnlySuccessStays,
     RolledBackCommits,
     SendSaysNothingThere,
     SomeCantStart,
@@ -232,6 +242,9 @@ mod tests {
         "service_64_is_none.edit",
     ];
 
+    /// An edit of the monitor itself, and none of the rules.
+    const NO_EDIT_OF_RULES: [Fault; 1] = [Fault::MarkedAtFetch];
+
     /// Each edit of the rules but those is a fault here.
     #[test]
     fn faults_are_the_edits() {
@@ -241,20 +254,32 @@ mod tests {
             .filter(|edit| !NO_RULE.contains(&edit.as_str()))
             .collect();
         edits.sort();
-        let faults = Fault::ALL.iter().map(|fault| fault.edit() + ".edit");
+        let faults = Fault::ALL
+            .iter()
+            .filter(|fault| !NO_EDIT_OF_RULES.contains(fault))
+            .map(|fault| fault.edit() + ".edit");
         assert_eq!(edits, faults.collect::<Vec<_>>());
     }
 
     /// No list shows these to the statement; an answer tells each.
-    const NO_HISTORY: [Fault; 12] = [
+    const NO_HISTORY: [Fault; 21] = [
         Fault::AnyoneSetsRights,
         Fault::CantStartStarts,
+        Fault::EndedSuccessIsLost,
+        Fault::ExpiredSuccessStays,
         Fault::FallResetsRights,
         Fault::FetchSaysEmptyTake,
         Fault::HalvesExchanged,
+        Fault::LostByOwnTx,
+        Fault::LostConversationStays,
+        Fault::LostFailIsError,
+        Fault::LostRequestStays,
+        Fault::LostSuccessStays,
+        Fault::MarkedAtFetch,
         Fault::NonOwnerCommits,
         Fault::PartyByRemainder,
         Fault::RightAfterOffered,
+        Fault::RollbackOnlySuccessStays,
         Fault::SendSaysNothingThere,
         Fault::SomeCantStart,
         Fault::TakeAsksRight,
@@ -291,8 +316,9 @@ mod tests {
         }
     }
 
-    /// The first answer of a stored file that the fault changes, right and
-    /// wrong; the wrong ones break nothing.
+    /// The first answer of a stored file that the fault changes: its place, the
+    /// kind, and the first field that differs, right and wrong. The wrong answers
+    /// break nothing.
     fn first_told(file: &str, fault: Fault) -> (usize, u32, i64, i64) {
         let file = read(format!("{CRATES}/drill_cases/data/{file}")).unwrap();
         let calls = read_calls(&file).0;
@@ -300,7 +326,9 @@ mod tests {
         let wrong = answered(Some(fault), &calls);
         assert_eq!(check(&wrong), None);
         let at = (0..calls.len()).find(|&at| right[at] != wrong[at]).unwrap();
-        (at + 1, calls[at][2], right[at].1[0], wrong[at].1[0])
+        let fields = right[at].1.into_iter().zip(wrong[at].1);
+        let (right, wrong) = fields.into_iter().find(|(one, two)| one != two).unwrap();
+        (at + 1, calls[at][2], right, wrong)
     }
 
     /// What no history shows, a stored listing does.
@@ -330,5 +358,24 @@ mod tests {
         assert_eq!(told, (22, 15, 36, 32));
         let told = first_told("case-93", Fault::SendSaysNothingThere);
         assert_eq!(told, (23, 17, 37, 36));
+        // The values of returns.
+        let told = first_told("case-97", Fault::EndedSuccessIsLost);
+        assert_eq!(told, (94, 20, 8, 2));
+        let told = first_told("case-95", Fault::ExpiredSuccessStays);
+        assert_eq!(told, (158, 20, 2, 8));
+        let told = first_told("case-95", Fault::RollbackOnlySuccessStays);
+        assert_eq!(told, (14, 20, 2, 8));
+        let told = first_told("case-95", Fault::LostByOwnTx);
+        assert_eq!(told, (14, 20, 2, 8));
+        let told = first_told("case-96", Fault::LostConversationStays);
+        assert_eq!(told, (19, 20, 2, 8));
+        let told = first_told("case-95", Fault::LostRequestStays);
+        assert_eq!(told, (14, 20, 2, 8));
+        let told = first_told("case-95", Fault::LostFailIsError);
+        assert_eq!(told, (133, 20, 4, 2));
+        let told = first_told("case-95", Fault::LostSuccessStays);
+        assert_eq!(told, (14, 20, 2, 8));
+        let told = first_told("case-95", Fault::MarkedAtFetch);
+        assert_eq!(told, (14, 20, 2, 8));
     }
 }

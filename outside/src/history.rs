@@ -24,6 +24,8 @@ pub enum Broken {
     Rights { at: usize },
     /// 32, 36 or 37 where something was there, or the other way round.
     Nothing { at: usize },
+    /// A service ended with another outcome than it should, or was told so.
+    Outcome { at: usize },
 }
 
 fn party(entry: &Entry) -> u32 {

@@ -9,6 +9,7 @@ pub mod kinds;
 pub mod lent;
 #[cfg(feature = "timing")]
 pub mod lent_wire;
+pub mod lost;
 pub mod monitor;
 pub mod nothing;
 pub mod number;

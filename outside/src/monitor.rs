@@ -444,13 +444,26 @@ impl Monitor {
     }
 
     fn is_expired(&self, transaction: u32) -> bool {
-        self.owner(transaction).is_some_and(|owner| {
-            let deadline = self.parties[owner].deadline;
-            if is_on(Fault::DeadlineOnlyPast) {
-                return deadline != 0 && u64::from(self.clock) > deadline;
-            }
-            deadline != 0 && u64::from(self.clock) >= deadline
-        })
+        self.owner(transaction)
+            .is_some_and(|owner| self.is_late(owner))
+    }
+
+    /// Whether the deadline of the party's transaction has come.
+    fn is_late(&self, owner: usize) -> bool {
+        let deadline = self.parties[owner].deadline;
+        if is_on(Fault::DeadlineOnlyPast) {
+            return deadline != 0 && u64::from(self.clock) > deadline;
+        }
+        deadline != 0 && u64::from(self.clock) >= deadline
+    }
+
+    /// Doomed or expired; an ended one is neither, nor is none.
+    fn is_lost(&self, transaction: u32) -> bool {
+        let Some(owner) = self.owner(transaction) else {
+            return transaction != 0 && is_on(Fault::EndedSuccessIsLost);
+        };
+        self.parties[owner].doomed && !is_on(Fault::RollbackOnlySuccessStays)
+            || self.is_late(owner) && !is_on(Fault::ExpiredSuccessStays)
     }
 
     /// S0 to S4.
@@ -601,10 +614,10 @@ impl Monitor {
         self.end_transaction(party);
         // The served link is working, so it is still there, but may have moved.
         let i = self.find(served).expect("a working link stays");
-        let dooms = outcome != SUCCESS
-            && !is_on(Fault::FailedReturnMarksNothing)
-            && !(outcome == FAIL && is_on(Fault::FailMarksNothing));
-        if dooms {
+        let marks_nothing = is_on(Fault::FailedReturnMarksNothing)
+            || is_on(Fault::MarkedAtFetch)
+            || (outcome == FAIL && is_on(Fault::FailMarksNothing));
+        if outcome != SUCCESS && !marks_nothing {
             self.doom(self.links[i].transaction);
         }
         self.parties[party].served = 0;
@@ -615,6 +628,14 @@ impl Monitor {
             link.ending_token = if outcome == ERROR { 0 } else { token };
         } else {
             self.remove_link(i);
+        }
+    }
+
+    /// With that fault: a failed outcome dooms as it is heard.
+    fn mark_at_fetch(&mut self, i: usize) {
+        let link = &self.links[i];
+        if is_on(Fault::MarkedAtFetch) && link.outcome != SUCCESS {
+            self.doom(link.transaction);
         }
     }
 
@@ -822,6 +843,7 @@ impl Monitor {
             self.reply_to(p, a)?
         };
         let link = self.links[i];
+        self.mark_at_fetch(i);
         let stays = is_on(Fault::FetchLeavesLink) || (any && is_on(Fault::AnyFetchLeavesLink));
         if !stays {
             self.remove_link(i);
@@ -884,6 +906,7 @@ impl Monitor {
             {
                 let event = u32::from(link.outcome);
                 let token = link.ending_token;
+                self.mark_at_fetch(i);
                 self.remove_link(i);
                 Some(Reply {
                     code: 29,
@@ -960,6 +983,22 @@ impl Monitor {
         Ok(Reply::code(0))
     }
 
+    /// A success in a lost transaction: asked of a return with a = 1 alone.
+    fn is_lost_success(&self, p: usize, a: u32, link: &Link) -> bool {
+        let stays = is_on(Fault::LostSuccessStays)
+            || is_on(match link.kind {
+                Kind::Request => Fault::LostRequestStays,
+                Kind::Conversation => Fault::LostConversationStays,
+            });
+        let asked = a == 1 || is_on(Fault::LostFailIsError);
+        let transaction = if is_on(Fault::LostByOwnTx) {
+            self.parties[p].owned
+        } else {
+            link.transaction
+        };
+        asked && !stays && self.is_lost(transaction)
+    }
+
     fn return_service(&mut self, p: usize, a: u32, c: u32) -> Decision {
         let party = &self.parties[p];
         ask(party.served != 0, 23)?;
@@ -970,20 +1009,23 @@ impl Monitor {
         let link = &self.links[i];
         let talking = link.kind == Kind::Conversation;
         let plain = if a == 1 { SUCCESS } else { FAIL };
-        let outcome =
-            if is_on(Fault::SuccessWithOpenEnds) && (party.owned != 0 || self.has_open_end(p)) {
-                plain
-            } else if party.owned != 0 || self.has_open_end(p) || (talking && link.cut != Cut::No) {
-                ERROR
-            } else if talking && !link.server_is_free_holder() {
-                if a == 2 && c == 0 {
-                    FAIL
-                } else {
-                    ERROR
-                }
+        let leaves_open = party.owned != 0 || self.has_open_end(p);
+        let outcome = if leaves_open && is_on(Fault::SuccessWithOpenEnds) {
+            plain
+        } else if leaves_open
+            || (talking && link.cut != Cut::No)
+            || self.is_lost_success(p, a, link)
+        {
+            ERROR
+        } else if talking && !link.server_is_free_holder() {
+            if a == 2 && c == 0 {
+                FAIL
             } else {
-                plain
-            };
+                ERROR
+            }
+        } else {
+            plain
+        };
         self.end_service(p, outcome, c);
         Ok(Reply::value(u32::from(outcome)))
     }
@@ -2364,7 +2406,7 @@ mod tests {
             ([15, 0, 12, 9, 0, 7], [35, 0, 0, 0, 0, 1]),
             ([15, 0, 23, 0, u32::MAX, 0], [0, 0, 0, 0, 0, 1]),
             ([15, 0, 12, 9, 0, 7], [28, 0, 0, 0, 0, 1]),
-            ([15, 0, 20, 1, 0, 8], [0, 8, 0, 0, 0, 0]),
+            ([15, 0, 20, 1, 0, 8], [0, 2, 0, 0, 0, 0]),
         ]);
     }
 
@@ -2641,6 +2683,187 @@ mod tests {
                     assert!(kept.iter().all(|other| !equal(&m, other)));
                     kept.push(m);
                 }
+            }
+        }
+    }
+
+    /// Party 1 at work for party 0, whose transaction has the deadline 15: a
+    /// request, or with 4 or 8 a conversation that the originator or the server
+    /// holds, with a token unread.
+    fn at_work(flags: u32) -> Monitor {
+        let mut m = Monitor::fresh();
+        let kind = if flags == 0 { 12 } else { 13 };
+        let sender = u32::from(flags == 8);
+        for call in [
+            [0, 0, 1, 0, 0, 0],
+            [0, 1, 1, 0, 0, 0],
+            [0, 1, 10, 5, 0, 0],
+            [0, 0, 9, 10, 0, 0],
+            [5, 0, 3, 0, 0, 0],
+            [5, 0, kind, 5, flags, 7],
+            [5, 1, 14, 0, 0, 0],
+            [5, sender, 17, 1, 0, 41],
+        ] {
+            let code = if call[2] == 17 && flags == 0 { 24 } else { 0 };
+            assert_eq!(step(&mut m, call)[0], code, "{call:?}");
+        }
+        m
+    }
+
+    /// A success in a lost transaction is 2, by the doomed mark or at the
+    /// deadline, whether a request or a conversation and whoever holds it; unread
+    /// and the ending token go with it, and the transaction is doomed. A failure
+    /// there is as anywhere.
+    #[test]
+    fn returns_in_a_lost_transaction() {
+        let ways = [0, 4, 8].map(|flags| [1, 2].map(|a| [0, 9].map(|c| (flags, a, c))));
+        for (flags, a, c) in ways.into_iter().flatten().flatten() {
+            for (doomed, clock) in [(false, 14), (true, 14), (false, 15), (true, 15)] {
+                let mut m = at_work(flags);
+                m.parties[0].doomed = doomed;
+                let lost = doomed || clock == 15;
+                let outcome = match (flags, a, c) {
+                    (4, 2, 0) => FAIL,
+                    (4, _, _) => ERROR,
+                    (_, 1, _) if lost => ERROR,
+                    (_, 1, _) => SUCCESS,
+                    _ => FAIL,
+                };
+                let told = [0, i64::from(outcome), 0, 0, 0, 0];
+                assert_eq!(step(&mut m, [clock, 1, 20, a, 0, c]), told);
+                let mut expected = at_work(flags);
+                expected.clock = clock;
+                expected.parties[0].doomed = doomed || outcome != SUCCESS;
+                expected.parties[1].served = 0;
+                let link = &mut expected.links[0];
+                link.state = State::Returned;
+                link.outcome = outcome;
+                if outcome != ERROR {
+                    link.ending_token = c;
+                }
+                if outcome == ERROR || flags == 4 {
+                    link.unread_count = 0;
+                }
+                assert!(equal_with_tokens(&m, &expected), "{flags} {a} {c} {clock}");
+                // What the originator hears: 28 from the deadline on.
+                let token = if outcome == ERROR { 0 } else { i64::from(c) };
+                let (kind, heard) = match (flags, outcome) {
+                    (0, SUCCESS) => (15, [0, 0, 0, token, 0, 1]),
+                    (0, FAIL) => (15, [30, 0, 0, token, 0, 1]),
+                    (0, _) => (15, [31, 0, 0, token, 0, 1]),
+                    (8, SUCCESS | FAIL) => (18, [0, 0, 0, 41, 0, 1]),
+                    _ => (18, [29, 0, i64::from(outcome), token, 0, 1]),
+                };
+                let late = [28, 0, 0, 0, 0, 1];
+                let heard = if clock == 15 { late } else { heard };
+                assert_eq!(step(&mut m, [clock, 0, kind, 1, 0, 0]), heard);
+            }
+        }
+    }
+
+    /// An ended transaction is neither doomed nor expired, and none is neither,
+    /// whatever its originator owns now; the server is told 2 also where nobody
+    /// hears it.
+    #[test]
+    fn returns_in_no_lost_transaction() {
+        for (transaction, owned, open, outcome) in [
+            (1, 1, true, 2),
+            (1, 1, false, 2),
+            (1, 0, true, 8),
+            (1, 0, false, 8),
+            (1, 2, true, 8),
+            (0, 1, true, 8),
+            (0, 1, false, 8),
+        ] {
+            let mut m = at_work(0);
+            m.last_transaction = 2;
+            m.parties[0].owned = owned;
+            m.parties[0].doomed = true;
+            m.links[0].transaction = transaction;
+            m.links[0].open = open;
+            assert_eq!(step(&mut m, [15, 1, 20, 1, 0, 9])[1], outcome);
+            assert_eq!(m.link_count, usize::from(open));
+        }
+    }
+
+    /// The clock is the raised one, by another's refused call too; calls that
+    /// raise none bring no deadline.
+    #[test]
+    fn clock_of_a_lost_transaction() {
+        for (before, clock, outcome) in [
+            ([5, 9, 6, 0, 0, 0], 15, 2),
+            ([15, 9, 6, 0, 0, 0], 3, 2),
+            ([14, 9, 6, 0, 0, 0], 3, 8),
+            ([15, 16, 6, 0, 0, 0], 14, 8),
+            ([15, 9, 99, 0, 0, 0], 14, 8),
+        ] {
+            let mut m = at_work(0);
+            step(&mut m, before);
+            assert_eq!(step(&mut m, [clock, 1, 20, 1, 0, 9])[1], outcome);
+        }
+    }
+
+    /// The mark and the deadline are those of the lowest party that owns it, as no
+    /// list shows; a mark of another party stands for nothing.
+    #[test]
+    fn owner_of_a_lost_transaction() {
+        for (doomed, outcome) in [([2, 3], 2), ([3, 4], 8), ([1, 5], 8), ([5, 15], 8)] {
+            let mut m = at_work(0);
+            m.parties[0] = Party::fresh();
+            m.parties[2].owned = 1;
+            m.parties[4].owned = 1;
+            m.parties[4].deadline = 1;
+            for party in [doomed[0], doomed[1]] {
+                m.parties[party].doomed = true;
+            }
+            assert!(m.is_sound());
+            assert_eq!(step(&mut m, [14, 1, 20, 1, 0, 9])[1], outcome, "{doomed:?}");
+        }
+    }
+
+    /// The second of two services is told of the first one's failure, fetched or
+    /// not; a reply given before keeps its 0.
+    #[test]
+    fn told_as_soon_as_possible() {
+        for (a, outcome, code) in [(1, 8, 0), (2, 4, 30)] {
+            for fetches in [false, true] {
+                let mut script = vec![
+                    ([0, 0, 1, 0, 0, 0], [0, 0, 0, 0, 0, 0]),
+                    ([0, 1, 1, 0, 0, 0], [0, 0, 0, 0, 0, 0]),
+                    ([0, 2, 1, 0, 0, 0], [0, 0, 0, 0, 0, 0]),
+                    ([0, 1, 10, 5, 0, 0], [0, 1, 0, 0, 0, 0]),
+                    ([0, 2, 10, 5, 0, 0], [0, 1, 0, 0, 0, 0]),
+                    ([0, 0, 3, 0, 0, 0], [0, 0, 0, 0, 0, 1]),
+                    ([0, 0, 12, 5, 0, 21], [0, 1, 0, 0, 0, 1]),
+                    ([0, 0, 12, 5, 0, 22], [0, 2, 0, 0, 0, 1]),
+                    ([0, 0, 12, 5, 0, 23], [0, 3, 0, 0, 0, 1]),
+                    ([0, 1, 14, 0, 0, 0], [0, 1, 64, 21, 5, 1]),
+                    ([0, 1, 20, 1, 0, 31], [0, 8, 0, 0, 0, 0]),
+                    ([0, 1, 14, 0, 0, 0], [0, 2, 64, 22, 5, 1]),
+                    ([0, 2, 14, 0, 0, 0], [0, 3, 64, 23, 5, 1]),
+                    ([0, 1, 20, a, 0, 32], [0, outcome, 0, 0, 0, 0]),
+                ];
+                let fetch = ([0, 0, 15, 2, 0, 0], [code, 0, 0, 32, 0, 1]);
+                if fetches {
+                    script.push(fetch);
+                }
+                let third = if a == 1 {
+                    [0, 8, 33, 0]
+                } else {
+                    [31, 2, 0, -2]
+                };
+                script.extend([
+                    ([0, 2, 20, 1, 0, 33], [0, third[1], 0, 0, 0, 0]),
+                    ([0, 0, 15, 0, 1, 0], [0, 1, 0, 31, 0, 1]),
+                ]);
+                if !fetches {
+                    script.push(fetch);
+                }
+                script.extend([
+                    ([0, 0, 15, 0, 1, 0], [third[0], 3, 0, third[2], 0, 1]),
+                    ([0, 0, 4, 0, 0, 0], [third[3], 0, 0, 0, 0, 0]),
+                ]);
+                drill(&script);
             }
         }
     }

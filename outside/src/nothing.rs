@@ -8,14 +8,14 @@ use crate::history::{is_refusal, Broken, Entry};
 use std::collections::{BTreeMap, BTreeSet, VecDeque};
 
 /// A link, as the calls and answers show it.
-struct Shown {
-    is_request: bool,
+pub(crate) struct Shown {
+    pub(crate) is_request: bool,
     originator: u32,
     /// Whether the originator's end is open.
-    open: bool,
+    pub(crate) open: bool,
     service: u32,
     /// 0 none.
-    transaction: i64,
+    pub(crate) transaction: i64,
     /// Its server, once taken.
     server: Option<u32>,
     returned: bool,
@@ -33,8 +33,17 @@ impl Shown {
         self.server.is_some() && !self.returned
     }
 
+    pub(crate) fn is_open_end_of(&self, party: u32) -> bool {
+        self.open && self.originator == party
+    }
+
+    /// The server holds a conversation and is not handing it over.
+    pub(crate) fn server_is_free_holder(&self) -> bool {
+        self.server_holds && !self.handing_over
+    }
+
     fn is_open_request_of(&self, party: u32) -> bool {
-        self.is_request && self.open && self.originator == party
+        self.is_request && self.is_open_end_of(party)
     }
 
     /// An end of a conversation that is neither cut nor returned, and whether it
@@ -60,14 +69,14 @@ impl Shown {
 
 /// What the calls and answers so far show.
 #[derive(Default)]
-struct Seen {
+pub(crate) struct Seen {
     /// How many links were made: the last one's number.
     made: u32,
-    links: BTreeMap<u32, Shown>,
+    pub(crate) links: BTreeMap<u32, Shown>,
     /// Party and service.
     offered: BTreeSet<(u32, u32)>,
-    /// Owned transactions by party.
-    owned: BTreeMap<u32, i64>,
+    /// Owned transactions by party; 0 none.
+    pub(crate) owned: BTreeMap<u32, i64>,
 }
 
 impl Seen {
@@ -76,6 +85,13 @@ impl Seen {
         let mut waiting = self.links.iter().filter(|(_, l)| l.server.is_none());
         let found = waiting.find(|(_, l)| self.offered.contains(&(party, l.service)))?;
         Some(*found.0)
+    }
+
+    /// The link that the party serves.
+    pub(crate) fn served(&self, party: u32) -> Option<(u32, &Shown)> {
+        let serves = |l: &Shown| l.server == Some(party) && l.is_working();
+        let mut served = self.links.iter().filter(|(_, l)| serves(l));
+        served.next().map(|(&d, l)| (d, l))
     }
 
     /// The lowest returned request with an open end of the party's.
@@ -113,8 +129,7 @@ impl Seen {
 
     /// An accepted return or fall.
     fn end_service(&mut self, party: u32) {
-        let own = |l: &Shown| l.open && l.originator == party;
-        let numbers = self.links.iter().filter(|(_, l)| own(l));
+        let numbers = self.links.iter().filter(|(_, l)| l.is_open_end_of(party));
         for d in numbers.map(|(&d, _)| d).collect::<Vec<_>>() {
             self.close(d);
         }
@@ -127,7 +142,7 @@ impl Seen {
 
     /// A call and its answer: false where something was there and the answer
     /// denies it, or the other way round.
-    fn reads(&mut self, entry: &Entry) -> bool {
+    pub(crate) fn reads(&mut self, entry: &Entry) -> bool {
         let [_, party, kind, a, b, c] = entry.0;
         let [code, value, event, token, _, t] = entry.1;
         match (kind, code) {

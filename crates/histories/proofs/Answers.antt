@@ -6,7 +6,7 @@ use Rattle.rules.specs.Choice.{pick, same}
 use Rattle.rules.specs.Codes.{no_begin}
 use Rattle.rules.specs.Lists.{first_of, any_of, collect}
 use Rattle.rules.specs.Record.{fresh_monitor, blanks, numbered, owns, own_end, link_of, changed, gone_of, removed}
-use Rattle.rules.specs.Transaction.{served_tx, tx_of, ended, expired, is_owner, rollback_only_in, deadline_of, begin_tx, orphaned, end_of, end_tx, is_open_of, can_commit}
+use Rattle.rules.specs.Transaction.{served_tx, tx_of, ended, expired, lost, is_owner, rollback_only_in, deadline_of, begin_tx, orphaned, end_of, end_tx, is_open_of, can_commit}
 use Rattle.rules.specs.States.{state_of, next_of, in_state, entered}
 use Rattle.rules.specs.Tx.{open_of, close_of, begin_of, go_on, commit_of, rollback_of, info_of, commit_return_of, control_of, timeout_of}
 use Rattle.rules.specs.Votes.{report_number, report_is, report_of, decides, some_committed, some_rolled_back, vote_code, code_after, commit_code, all_can_start}
@@ -49,7 +49,7 @@ answered_right rs h = record { runs = same_code_lem _ _ (and_l _ _ h); answers =
 
 pub real_answered : (k : ℕ) → k < length real → Answered (get_or real k [])
 unfolding every right same_places pick same no_begin first_of any_of collect blanks numbered owns own_end link_of changed gone_of removed served_tx tx_of
-    ended expired is_owner rollback_only_in deadline_of begin_tx orphaned end_of end_tx is_open_of can_commit state_of next_of in_state entered open_of close_of
+    ended expired lost is_owner rollback_only_in deadline_of begin_tx orphaned end_of end_tx is_open_of can_commit state_of next_of in_state entered open_of close_of
     begin_of go_on report_number report_is report_of decides some_committed some_rolled_back vote_code code_after commit_code all_can_start commit_of rollback_of
     info_of commit_return_of control_of timeout_of in_set offers may_request may_advertise granted rights_of count_to offered with_service offers_now advertise_of unadvertise_of link_tx ask_link request_of
     connect_of is_idle fits dispatch_event dispatched dispatch_of request_end outcome_code fetched fetch_one expired_end replied_end fetch_any fetch_of

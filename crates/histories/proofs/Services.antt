@@ -47,7 +47,7 @@ failing =
     ∷ row 7 0 tx_commit 0 0 0 (pos 0) 0 0 0 0 0
     ∷ []
 
--- a service returns success with a request of its own open: outcome 2
+-- a service returns success with a request of its own open: outcome 2, and so has that request, its transaction being lost
 abbrev pub negligent : List Row
 negligent =
     row 1 0 tx_open 0 0 0 (pos 0) 0 0 0 0 0
@@ -62,7 +62,7 @@ negligent =
     ∷ row 4 1 tpreturn 1 0 71 (pos 0) 2 0 0 0 0
     ∷ row 5 0 tpgetrply 1 0 0 (pos 31) 0 0 0 0 1
     ∷ row 6 2 dispatch 0 0 0 (pos 0) 2 64 0 8 1
-    ∷ row 6 2 tpreturn 1 0 0 (pos 0) 8 0 0 0 0
+    ∷ row 6 2 tpreturn 1 0 0 (pos 0) 2 0 0 0 0
     ∷ row 7 0 tx_commit 0 0 0 (negsuc 1) 0 0 0 0 0
     ∷ []
 

@@ -1,15 +1,17 @@
--- Whether a transaction has ended or expired, by its owner; and whether a link of it is open.
+-- Whether a transaction has ended, has expired or is lost, by its owner; and whether a link of it is open.
 -- Assumes nothing.
-use Rattle.std.proofs.Common.{Option, is_some, ℕ, zero, suc, ◌+◌, ◌≤◌, ◌≡◌, refl, ap, sym, ◌∙◌, Bool}
+use Rattle.std.proofs.Common.{Option, is_some, ℕ, zero, suc, ◌+◌, ◌≤◌, ◌≡◌, refl, ap, sym, ◌∙◌, Bool, false}
 use Rattle.std.proofs.Common.{not, ◌&&◌, ◌||◌, List, [], ◌∷◌, drop, arith, ltb-false, eqb, ltb, length}
 use Rattle.std.specs.List.{list_any, range_with_len}
 use Rattle.std.proofs.Math.ListN.{get_or-eq_default}
+use Rattle.rules.specs.Choice.{pick}
+use Rattle.rules.specs.declared.Party.{Party}
 use Rattle.rules.specs.declared.Link.{Link}
 use Rattle.rules.specs.Lists.{first_of, any_of}
 use Rattle.rules.specs.Record.{fresh_party, owns, party, live, is_attached}
-use Rattle.rules.specs.Transaction.{owner_of, ended, late, expired, is_open_of}
+use Rattle.rules.specs.Transaction.{owner_of, owner_party, ended, late, cannot_commit, expired, lost, is_open_of}
 use Rattle.rules.proofs.Logic.{test, pick_true, pick_false, pick_or, and_false}
-use Rattle.monitor.specs.View.{view, link_in, place_among, live_owner, late_at, of_tx}
+use Rattle.monitor.specs.View.{view, link_in, place_among, live_owner, passes_at, late_at, of_tx}
 use Rattle.monitor.proofs.Laws.{parties_long, next_live, end_live}
 use Rattle.monitor.proofs.Search.{party_there}
 
@@ -20,19 +22,27 @@ module _ (xs : List ℕ) (t : ℕ) {o : Option ℕ} (e : o ≡ live_owner (view 
       (λ z. rw z)
       (λ n. rw n (ap not (sym (party_there xs (owns t) (e ∙ pick_false _ _ _ n)))))
 
-  pub expired_by : expired (view xs) t ≡ late_at (view xs) o
-  unfolding expired
-  expired_by = test (eqb t 0)
-      (λ z. pick_true _ _ _ z ∙ sym (ap (late_at (view xs)) (e ∙ pick_true _ _ _ z)))
-      (λ n. pick_false _ _ _ n ∙ by-place (owner_of (view xs).parties t) ∙ sym (ap (late_at (view xs)) (e ∙ pick_false _ _ _ n)))
+  -- a test that a fresh party does not pass, of the owner of t
+  passed_by : (f : Party → Bool) → f fresh_party ≡ false → pick (eqb t 0) false (f (owner_party (view xs).parties t)) ≡ passes_at f (view xs) o
+  passed_by f x = test (eqb t 0)
+      (λ z. pick_true _ _ _ z ∙ sym (ap (passes_at f (view xs)) (e ∙ pick_true _ _ _ z)))
+      (λ n. pick_false _ _ _ n ∙ by-place (owner_of (view xs).parties t) ∙ sym (ap (passes_at f (view xs)) (e ∙ pick_false _ _ _ n)))
     where
-      by-place : (k : ℕ) → late (view xs).clock (party (view xs) k) ≡ late_at (view xs) (place_among 16 k)
+      by-place : (k : ℕ) → f (party (view xs) k) ≡ passes_at f (view xs) (place_among 16 k)
       by-place k = test (ltb k 16)
-          (λ l. sym (ap (late_at (view xs)) (pick_true _ _ _ l)))
+          (λ l. sym (ap (passes_at f (view xs)) (pick_true _ _ _ l)))
           (λ g. let n = parties_long 16 0 xs in
           let p = ltb-false k 16 g in
           let h : length (view xs).parties ≤ k = omega arith in
-          ap (late (view xs).clock) (get_or-eq_default (view xs).parties fresh_party h) ∙ sym (ap (late_at (view xs)) (pick_false _ _ _ g)))
+          ap f (get_or-eq_default (view xs).parties fresh_party h) ∙ x ∙ sym (ap (passes_at f (view xs)) (pick_false _ _ _ g)))
+
+  pub expired_by : expired (view xs) t ≡ late_at (view xs) o
+  unfolding expired
+  expired_by = passed_by (late (view xs).clock) refl
+
+  pub lost_by : lost (view xs) t ≡ passes_at (cannot_commit (view xs).clock) (view xs) o
+  unfolding lost
+  lost_by = passed_by (cannot_commit (view xs).clock) refl
 
 -- the links from the first of the transaction t on have an open end where all have one
 pub none_open : (t : ℕ) (l : List Link) {i : ℕ} → i ≡ first_of (of_tx t) l → any_of (is_open_of t) (drop i l) ≡ any_of (is_open_of t) l

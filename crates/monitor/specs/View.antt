@@ -74,10 +74,14 @@ place_among n k = pick (ltb k n) (Some k) None
 abbrev pub live_owner : List Party → ℕ → Option ℕ
 live_owner ps t = pick (eqb t 0) None (place_among 16 (owner_of ps t))
 
+-- does the party pass the test f, if there is one
+abbrev pub passes_at : (Party → Bool) → Monitor → Option ℕ → Bool
+passes_at f m None = false
+passes_at f m (Some p) = f (party m p)
+
 -- has the deadline of the party come, if there is one
 abbrev pub late_at : Monitor → Option ℕ → Bool
-late_at m None = false
-late_at m (Some p) = late m.clock (party m p)
+late_at m o = passes_at (late m.clock) m o
 
 -- the code's test asks what f asks
 abbrev pub tests : {A : Type 0} → (A → Bool → Type 0) → (A → Bool) → Type 0

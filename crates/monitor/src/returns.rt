@@ -14,7 +14,7 @@ use super::links::{
     live_at, place_of, remove, sweep,
 };
 use super::party::PartyNumber;
-use super::transaction::{end_tx, first_of_tx, set_rollback_only};
+use super::transaction::{end_tx, first_of_tx, is_lost, set_rollback_only};
 use super::words::{WORDS, count, link_at, party_at, put_party};
 use rules::{Link, Party, Refusal, codes};
 
@@ -64,6 +64,9 @@ pub(crate) fn outcome_of(s: &[u32; WORDS], p: PartyNumber, a: u32, c: u32, l: Li
     ensures { outcome_number result ≡ outcome_of (view s.now) p.index a c l }
 {
     if has_own_end(s, p) || party_at(s, p.index).owned != 0 {
+        return Outcome::SvcErr;
+    }
+    if a == codes::TPSUCCESS && is_lost(s, l.tx) {
         return Outcome::SvcErr;
     }
     if l.kind != 1 {

@@ -18,3 +18,5 @@ pub mod Voted
 pub mod Rights
 pub mod Permitted
 pub mod Nothing
+pub mod Lost
+pub mod Outcomes

@@ -44,13 +44,30 @@ opens = call 0 1 0 0 0
 abbrev pub advertises : ℕ → List ℕ
 advertises a = call 0 10 a 0 0
 
--- party p sends on link 1
+-- party p sends on link 1, and receives
 abbrev pub sends : ℕ → List ℕ
 sends p = by p 17 1 0 7
+
+abbrev pub receives : ℕ → List ℕ
+receives p = by p 18 1 0 0
 
 -- party p requests service a
 abbrev pub requests : ℕ → ℕ → List ℕ
 requests p a = by p 12 a 0 7
+
+-- party p takes the next link, and returns success
+abbrev pub takes : ℕ → List ℕ
+takes p = by p 14 0 0 0
+
+abbrev pub returns : ℕ → List ℕ
+returns p = by p 20 1 0 7
+
+-- party p fetches the reply of link 1, or whichever is there
+abbrev pub fetches : ℕ → List ℕ
+fetches p = by p 15 1 0 0
+
+abbrev pub fetches_any : ℕ → List ℕ
+fetches_any p = by p 15 0 1 0
 
 -- party 1 offers service 1
 abbrev pub offered1 : List ℕ → List ℕ
@@ -105,23 +122,23 @@ ninth_service = record {
 abbrev pub marked : List Example
 marked = fresh_begin ∷ fresh_close ∷ timeout_too_long ∷ commit_in_time ∷ commit_too_late ∷ clock_stays ∷ cancel_in_tx ∷ fifth_unread ∷ ninth_service ∷ []
 
--- the calls as a lent list on a fresh monitor, with as much room as they need
-abbrev pub drilled : Example → Listed
-drilled e = list_of fresh_monitor e.calls (replicate (length e.calls) (pos 0))
+-- calls as a lent list on a fresh monitor, with as much room as they need
+abbrev pub drilled : List ℕ → Listed
+drilled cs = list_of fresh_monitor cs (replicate (length cs) (pos 0))
 
 -- the code of the last answer
 abbrev pub last_code : Example → ℤ
-last_code e = get_or (drilled e).places (length e.calls - 6) (pos 0)
+last_code e = get_or (drilled e.calls).places (length e.calls - 6) (pos 0)
 
 -- What holds of an example.
 pub record Holds (e : Example) : Type 0 where
-  pub runs : (drilled e).code ≡ pos 0
+  pub runs : (drilled e.calls).code ≡ pos 0
   pub answers : last_code e ≡ e.code
-  pub leaves : (drilled e).monitor.clock ≡ e.clock
+  pub leaves : (drilled e.calls).monitor.clock ≡ e.clock
 
 -- ---- the test
 unfoldable pub right : Example → Bool
-right e = same_code (drilled e).code (pos 0) && (same_code (last_code e) e.code && eqb (drilled e).monitor.clock e.clock)
+right e = same_code (drilled e.calls).code (pos 0) && (same_code (last_code e) e.code && eqb (drilled e.calls).monitor.clock e.clock)
 
 -- ---- what it shows
 pub holds_right : (e : Example) → right e ≡ true → Holds e

@@ -4,7 +4,7 @@ use Rattle.std.proofs.Common.{refl, List, [], ◌∷◌, ◌++◌, ℕ, ◌<◌,
 use Rattle.rules.specs.Choice.{pick, same}
 use Rattle.rules.specs.Lists.{first_of, any_of, collect}
 use Rattle.rules.specs.Record.{numbered, owns, own_end, link_of, changed, gone_of, removed}
-use Rattle.rules.specs.Transaction.{served_tx, tx_of, ended, expired, deadline_of, begin_tx}
+use Rattle.rules.specs.Transaction.{served_tx, tx_of, ended, expired, lost, deadline_of, begin_tx}
 use Rattle.rules.specs.States.{state_of, next_of, in_state, entered}
 use Rattle.rules.specs.Tx.{open_of, begin_of, timeout_of}
 use Rattle.rules.specs.Services.{in_set, offers, may_request, may_advertise, count_to, offered, with_service, offers_now, advertise_of}
@@ -18,22 +18,8 @@ use Rattle.rules.specs.Return.{serves_none, hand_back, leave, return_with, retur
 use Rattle.rules.specs.Sound.{reports_good, links_good, party_good, parties_good, sound}
 use Rattle.rules.specs.Step.{rule_of, later_of, answered_to, call_of}
 use Rattle.rules.specs.Run.{call_at, places_of, ran_of, answers_of, list_of}
-use Rattle.rules.proofs.Marked.{Example, Holds, call, by, ends, timed, sends, requests, offered1, fresh_begin, right, holds_right}
+use Rattle.rules.proofs.Marked.{Example, Holds, call, by, ends, timed, sends, requests, takes, returns, fetches, fetches_any, receives, offered1, fresh_begin, right, holds_right}
 use Rattle.rules.proofs.Tables.{every, entry}
-
--- party p takes the next link, and returns success
-abbrev takes : ℕ → List ℕ
-takes p = by p 14 0 0 0
-
-abbrev returns : ℕ → List ℕ
-returns p = by p 20 1 0 7
-
--- party p fetches the reply of link 1, or whichever is there
-abbrev fetches : ℕ → List ℕ
-fetches p = by p 15 1 0 0
-
-abbrev fetches_any : ℕ → List ℕ
-fetches_any p = by p 15 0 1 0
 
 -- party 0 connects to service 1 as link 1, to send or to receive, and party 1 takes it
 abbrev sending : List ℕ → List ℕ
@@ -42,12 +28,9 @@ sending cs = offered1 (by 0 13 1 4 7 ++ takes 1 ++ cs)
 abbrev receiving : List ℕ → List ℕ
 receiving cs = offered1 (by 0 13 1 8 7 ++ takes 1 ++ cs)
 
--- party p sends on link 1 four times, and receives
+-- party p sends on link 1 four times
 abbrev fills : ℕ → List ℕ
 fills p = sends p ++ sends p ++ sends p ++ sends p
-
-abbrev receives : ℕ → List ℕ
-receives p = by p 18 1 0 0
 
 abbrev pub nothing : List Example
 nothing =
@@ -138,7 +121,7 @@ nothing =
     ∷ []
 
 pub nothing_holds : (k : ℕ) → k < length nothing → Holds (get_or nothing k fresh_begin)
-unfolding every right pick same first_of any_of collect numbered owns own_end link_of changed gone_of removed served_tx tx_of ended expired deadline_of
+unfolding every right pick same first_of any_of collect numbered owns own_end link_of changed gone_of removed served_tx tx_of ended expired lost deadline_of
     begin_tx state_of next_of in_state entered open_of begin_of timeout_of in_set offers may_request may_advertise count_to offered with_service offers_now
     advertise_of link_tx ask_link request_of connect_of is_idle fits dispatched dispatch_of request_end expired_end replied_end outcome_code fetched fetch_one
     fetch_any fetch_of originator_end server_end any_end hears_disconnect hears_return end_side is_sender tells_disconnect tells_return send_on send_of

@@ -4,7 +4,7 @@ use Rattle.std.proofs.Common.{refl, List, [], ◌∷◌, ◌++◌, ℕ, ◌<◌,
 use Rattle.rules.specs.Choice.{pick, same}
 use Rattle.rules.specs.Lists.{first_of, any_of, collect}
 use Rattle.rules.specs.Record.{numbered, owns, own_end, link_of, changed, gone_of, removed}
-use Rattle.rules.specs.Transaction.{served_tx, tx_of, ended, expired, is_owner, deadline_of, begin_tx, orphaned, end_of, end_tx}
+use Rattle.rules.specs.Transaction.{served_tx, tx_of, ended, expired, lost, is_owner, deadline_of, begin_tx, orphaned, end_of, end_tx}
 use Rattle.rules.specs.States.{state_of, next_of, in_state, entered}
 use Rattle.rules.specs.Tx.{open_of, begin_of, go_on, rollback_of, timeout_of}
 use Rattle.rules.specs.Services.{in_set, offers, may_request, may_advertise, count_to, offered, with_service, offers_now, advertise_of, unadvertise_of}
@@ -100,7 +100,7 @@ permitted =
     ∷ []
 
 pub permitted_holds : (k : ℕ) → k < length permitted → Holds (get_or permitted k fresh_begin)
-unfolding every right pick same first_of any_of collect numbered owns own_end link_of changed gone_of removed served_tx tx_of ended expired is_owner
+unfolding every right pick same first_of any_of collect numbered owns own_end link_of changed gone_of removed served_tx tx_of ended expired lost is_owner
     deadline_of begin_tx orphaned end_of end_tx state_of next_of in_state entered open_of begin_of go_on rollback_of timeout_of in_set offers may_request
     may_advertise count_to offered with_service offers_now advertise_of unadvertise_of granted rights_of link_tx ask_link request_of connect_of is_idle fits
     dispatched dispatch_of request_end outcome_code fetched fetch_one fetch_of originator_end server_end any_end hears_disconnect hears_return end_side is_sender

@@ -22,3 +22,4 @@ pub mod Demand
 pub mod After
 pub mod AnyReply
 pub mod Refusals
+pub mod Lost

@@ -7,7 +7,7 @@ use Rattle.rules.specs.Lists.{any_of, collect}
 use Rattle.rules.specs.Record.{fresh_party, is_conversation, is_attached, is_working, is_returned, is_server_free, own_end, party, live, link_of}
 use Rattle.rules.specs.Record.{serving, closed, dropped, disconnected_link, returned, with_rights, with_parties, with_party, rebuilt, changed, removed, valued}
 use Rattle.rules.specs.Record.{ask}
-use Rattle.rules.specs.Transaction.{rollback_only_in, rollback_only_tx, end_tx}
+use Rattle.rules.specs.Transaction.{lost, rollback_only_in, rollback_only_tx, end_tx}
 use Rattle.rules.specs.Conversations.{originator_end}
 use Rattle.rules.specs.declared.Ruled.{Ruled}
 use Rattle.rules.specs.declared.Party.{Party}
@@ -20,15 +20,18 @@ unfoldable pub plain_outcome : ℕ → ℕ
 plain_outcome a = pick (eqb a tp_success) tpev_svc_succ tpev_svc_fail
 
 -- "2 if it has open originator ends or owns a transaction; for a conversation, else 2 if cut or told; else, if it is
--- not the free holder, 4 when a = 2 and c = 0 and otherwise 2; else 8 or 4 by a"
+-- not the free holder, 4 when a = 2 and c = 0 and otherwise 2; else 8 or 4 by a"; after the first of these, and so "before
+-- the free-holder question", "a return with a = 1 inside a transaction that is already doomed or expired has outcome 2 in
+-- place of 8" (document 02, R-7)
 unfoldable pub outcome_of : Monitor → ℕ → ℕ → ℕ → Link → ℕ
 outcome_of m p a c l =
     pick (any_of (own_end p) (live m) || not (eqb (party m p).owned 0)) tpev_svc_err
+    (pick (eqb a tp_success && lost m l.tx) tpev_svc_err
     (pick (is_conversation l)
     (pick (not (eqb l.disconnected 0)) tpev_svc_err
     (pick (is_server_free l) (plain_outcome a)
     (pick (eqb a tp_fail && eqb c 0) tpev_svc_fail tpev_svc_err)))
-    (plain_outcome a))
+    (plain_outcome a)))
 
 -- "If outcome is 2, or it wasn't the free holder, unread is dropped."
 unfoldable pub unread_after : ℕ → Link → Link

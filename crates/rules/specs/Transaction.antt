@@ -1,6 +1,6 @@
--- Transactions: a party's T, its owner, ended, expired, live, rollback-only; how one begins and ends.
+-- Transactions: a party's T, its owner, ended, expired, lost, live, rollback-only; how one begins and ends.
 -- Assumes nothing.
-use Rattle.std.specs.Prelude.{ℕ, ◌+◌, List, [], ◌∷◌, Bool, false, not, ◌&&◌, set, get_or, eqb, ltb, leb}
+use Rattle.std.specs.Prelude.{ℕ, ◌+◌, List, [], ◌∷◌, Bool, false, not, ◌&&◌, ◌||◌, set, get_or, eqb, ltb, leb}
 use Rattle.rules.specs.Choice.{pick, same}
 use Rattle.rules.specs.Lists.{first_of, any_of, collect}
 use Rattle.rules.specs.Record.{fresh_party, is_rollback_only, is_request, is_attached, is_working, is_notified, owns, party, live, link_of, owning}
@@ -32,9 +32,18 @@ ended m t = not (eqb t 0) && not (any_of (owns t) m.parties)
 abbrev pub late : ℕ → Party → Bool
 late clock q = not (eqb q.deadline 0) && leb q.deadline clock
 
+-- can the party's transaction only be rolled back, by its mark or by its deadline
+abbrev pub cannot_commit : ℕ → Party → Bool
+cannot_commit clock q = is_rollback_only q || late clock q
+
 -- "T is expired when its owner's deadline is not 0 and clock ≥ deadline"; "an ended one is not expired"
 unfoldable pub expired : Monitor → ℕ → Bool
 expired m t = pick (eqb t 0) false (late m.clock (owner_party m.parties t))
+
+-- "inside a transaction that is already doomed or expired" (document 02, R-7): by its owner's mark or deadline. An ended one is neither, for without an
+-- owner the party is a fresh one, which has no mark and no deadline; and no transaction (0) is neither.
+unfoldable pub lost : Monitor → ℕ → Bool
+lost m t = pick (eqb t 0) false (cannot_commit m.clock (owner_party m.parties t))
 
 -- is party p in a transaction of which it is the owner
 unfoldable pub is_owner : Monitor → ℕ → Bool

@@ -28,7 +28,10 @@ fn broken(entries: &[Entry]) -> Option<&'static str> {
         Broken::WronglyCommitted { .. } if at_work => Some("commit and alone"),
         Broken::WronglyCommitted { .. } | Broken::WronglyRolledBack { .. } => Some("commit"),
         Broken::AtWork { .. } => Some("alone"),
-        Broken::Refusal { .. } | Broken::Rights { .. } | Broken::Nothing { .. } => None,
+        Broken::Refusal { .. }
+        | Broken::Rights { .. }
+        | Broken::Nothing { .. }
+        | Broken::Outcome { .. } => None,
     }
 }
 

@@ -5,15 +5,17 @@
 //! clock (and up to question 21 nothing at all) and has zeros beside its number
 //! and T; a fetch of any reply is told by fetches by number; a commit's code is
 //! the most severe of what its managers' reports give two by two; what a right
-//! forbids is 35 and the rest is as with all rights; a list does what its calls
+//! forbids is 35 and the rest is as with all rights; a success in a lost
+//! transaction is told by a fall, and any other by a transaction that is not lost; a list does what its calls
 //! do; a drill file is read as written; and the same on records no list reaches,
-//! made by changing fields at random. Of a history, its rights, and whether
-//! something was there to take, fetch, receive or have room for, are also read
-//! off the calls and answers alone.
+//! made by changing fields at random. Of a history, its rights, whether something
+//! was there to take, fetch, receive or have room for, and how its services end
+//! are also read off the calls and answers alone.
 
 use outside::drill;
 use outside::generator::{self, Generator, Rng};
 use outside::history::{self, Entry};
+use outside::lost;
 use outside::monitor::{
     equal, equal_with_tokens, run_list, step, Cut, End, Kind, Link, Monitor, Party, State,
     ALL_SERVICES, LAST_NUMBER, LINKS, MANAGERS, PARTIES,
@@ -61,6 +63,13 @@ struct Tally {
     fetches_of_nothing: [u64; 2],
     receives_of_nothing: u64,
     sends_on_full_links: u64,
+    /// Successes answered 2 for nothing but their transaction: of requests
+    /// and of conversations; in doomed ones that are not expired, in expired ones
+    /// that are not doomed, and in those that are both.
+    lost_requests: [u64; 3],
+    lost_conversations: [u64; 3],
+    /// Of these, with unread data by the free holder, which 8 would have kept.
+    lost_unread: u64,
     sound_changed_records: u64,
     unsound_records: u64,
 }
@@ -189,9 +198,77 @@ fn check_step(
                 false => fail("a fall"),
             }
         }
+        (20, _) => check_success(before, after, call, answer),
         (23, _) => check_rights_set(before, after, call, answer),
         _ => Ok(()),
     }
+}
+
+/// A success in a live transaction, and what the same call gives where that is
+/// neither doomed nor expired.
+struct FoundAgain {
+    link: Link,
+    owner: usize,
+    doomed: bool,
+    expired: bool,
+    monitor: Monitor,
+    answer: [i64; 6],
+}
+
+fn found_again(before: &Monitor, call: [u32; 6]) -> Option<FoundAgain> {
+    let [clock, party, 20, 1, _, _] = call else {
+        return None;
+    };
+    let served = before.parties.get(party as usize)?.served;
+    let link = *before.links().iter().find(|l| l.number == served)?;
+    let owner = before.owner(link.transaction)?;
+    let mut monitor = before.clone();
+    let of = &mut monitor.parties[owner];
+    let expired = of.deadline != 0 && u64::from(clock.max(before.clock)) >= of.deadline;
+    (of.doomed, of.deadline) = (false, 0);
+    let answer = step(&mut monitor, call);
+    Some(FoundAgain {
+        link,
+        owner,
+        doomed: before.parties[owner].doomed,
+        expired,
+        monitor,
+        answer,
+    })
+}
+
+/// A success: in a lost transaction, where it would be 8 otherwise, the
+/// party serves none and all else is as if it fell; elsewhere all is as it would
+/// be otherwise.
+fn check_success(
+    before: &Monitor,
+    after: &Monitor,
+    call: [u32; 6],
+    answer: [i64; 6],
+) -> Result<(), String> {
+    let Some(found) = found_again(before, call) else {
+        return Ok(());
+    };
+    let mut expected = found.monitor;
+    let mut told = found.answer;
+    let p = call[1] as usize;
+    if told[1] == 8 && (found.doomed || found.expired) {
+        told[1] = 2;
+        expected = before.clone();
+        step(&mut expected, [call[0], call[1], 21, 0, 0, 0]);
+        expected.parties[p] = before.parties[p];
+        expected.parties[p].served = 0;
+    } else if expected.parties[found.owner].owned == found.link.transaction {
+        let of = &mut expected.parties[found.owner];
+        of.doomed |= found.doomed;
+        of.deadline = before.parties[found.owner].deadline;
+    }
+    if answer == told && equal_with_tokens(&expected, after) {
+        return Ok(());
+    }
+    Err(format!(
+        "a success: call {call:?} answer {answer:?}, expected {told:?}, before {before:?}"
+    ))
 }
 
 /// What needs a right, from the same call with all rights.
@@ -503,6 +580,25 @@ fn tally_nothing(call: [u32; 6], answer: [i64; 6], tally: &mut Tally) {
     }
 }
 
+/// Adds to the tally a success that only its lost transaction makes an error.
+fn tally_lost(before: &Monitor, call: [u32; 6], answer: [i64; 6], tally: &mut Tally) {
+    let Some(found) = found_again(before, call).filter(|found| found.answer[1] == 8) else {
+        return;
+    };
+    let how = match (found.doomed, found.expired) {
+        (false, false) => return,
+        (true, false) => 0,
+        (false, true) => 1,
+        (true, true) => 2,
+    };
+    assert_eq!(answer[1], 2);
+    match found.link.kind {
+        Kind::Request => tally.lost_requests[how] += 1,
+        Kind::Conversation => tally.lost_conversations[how] += 1,
+    }
+    tally.lost_unread += u64::from(found.link.unread_count > 0);
+}
+
 /// The transaction that the party's latest answer past question 21 ends in.
 fn last_answer(entries: &[Entry], party: u32) -> i64 {
     let mut own = entries.iter().rev();
@@ -547,6 +643,9 @@ fn check_history(
         return Err(format!("history: {broken:?} in {entries:?}"));
     }
     if let Some(broken) = nothing::check_nothing(entries) {
+        return Err(format!("history: {broken:?} in {entries:?}"));
+    }
+    if let Some(broken) = lost::check_lost(entries) {
         return Err(format!("history: {broken:?} in {entries:?}"));
     }
     // The same calls as lent lists, cut anywhere, and as a drill file.
@@ -758,6 +857,7 @@ fn fuzz(seed: u64, count: u64, tally: &mut Tally) -> Result<(), String> {
             check_step(&before, &m, call, answer)?;
             tally_rights(&before, call, answer, tally);
             tally_nothing(call, answer, tally);
+            tally_lost(&before, call, answer, tally);
             entries.push((call, answer));
             tally.deepest_nesting = tally.deepest_nesting.max(nesting(&m));
             tally.full_links += u64::from(m.link_count == LINKS);

@@ -3,7 +3,7 @@
 use Rattle.std.proofs.Common.{◌≡◌, refl, sym, ap, ◌∙◌, Bool, true, false, ◌||◌, ℕ, ◌<◌, eqb, get_or, rules}
 use Rattle.std.proofs.Math.Bool.{or-false}
 use Rattle.rules.specs.Choice.{same}
-use Rattle.rules.specs.Record.{fresh_party, is_rollback_only, is_attached, is_waiting, is_working, is_ending, party, live, link_of, serving, with_party, changed}
+use Rattle.rules.specs.Record.{fresh_party, is_rollback_only, is_attached, is_waiting, is_working, is_ending, party, live, link_of, returned, serving, with_party, changed}
 use Rattle.rules.specs.Return.{unread_after, rollback_only_served, serves_none, hand_back, leave}
 use Rattle.rules.specs.declared.Link.{Link}
 use Rattle.rules.specs.declared.Party.{Party}
@@ -15,7 +15,7 @@ use Rattle.rules.proofs.Parties.{party_same, party_other, party_frame, Marks, ma
 use Rattle.rules.proofs.Changes.{changed_parties, changed_same, changed_other, changed_frame}
 use Rattle.rules.proofs.History.Moves.{is_whole, Like}
 use Rattle.rules.proofs.History.Left.{like_refl}
-use Rattle.rules.proofs.History.Walk.Parting.{part_left, hand_left, Closing, part_closing, part_works, part_dull, unread_like, hand_closing}
+use Rattle.rules.proofs.History.Walk.Parting.{part_left, part_open, hand_left, hand_open, Closing, part_closing, part_works, part_dull, unread_like, hand_closing}
 use Rattle.rules.proofs.History.Walk.Leaving.{Numbers, numbers_then, changed_numbers, shed, shed_owned, shed_all, shed_all_frame, shed_all_look}
 use Rattle.rules.proofs.History.Walk.Leaving.{shed_all_self, shed_all_marks, shed_all_free, shed_all_miss, shed_all_numbers}
 use Rattle.rules.proofs.History.Walk.Leaving.{rollback_only_served_live, rollback_only_served_numbers, rollback_only_served_frame}
@@ -208,3 +208,10 @@ module _ (m : Monitor) (fi : Fine m) (p : ℕ) (b : p < 16) (s : Nz (party m p).
     hit = λ q y a t z u. ap (λ x. is_rollback_only x) (party6 q y ∙ rollback_only_served_hit o (link_of m d).tx m3 q (bad_8 o a)
         (rw (link_of_tx m d, ← t) z) (marks_owned (party m q) (party m3 q) (marks3 q y) ∙ t ∙ sym (link_of_tx m d)) (only q t z u));
   }
+
+  -- the link that it leaves with its originator's end open
+  pub leave_back : is_attached (look d (live (leave m p (party m p).served o e))) ≡ true
+      → look d (live (leave m p (party m p).served o e)) ≡ returned (unread_after o l) o e
+  unfolding leave
+  leave_back a = let x = part_left p (party m p).owned (unread_after o l) in
+      hand_open o e x (rw self6 at a) (λ y h. self6 ∙ h ∙ ap (λ z. returned z o e) (part_open p (party m p).owned (unread_after o l) y))

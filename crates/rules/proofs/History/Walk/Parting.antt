@@ -5,7 +5,7 @@ use Rattle.rules.specs.Choice.{pick, same}
 use Rattle.rules.specs.Record.{is_attached, is_waiting, is_working, is_ending, own_end, returned}
 use Rattle.rules.specs.Return.{close_end, unread_after}
 use Rattle.rules.specs.declared.Link.{Link}
-use Rattle.rules.proofs.Logic.{by_test, test, not_both, pick_false, and_r, same_true, Nz}
+use Rattle.rules.proofs.Logic.{by_test, test, not_both, pick_true, pick_false, and_r, same_true, Nz}
 use Rattle.rules.proofs.Fine.{no_link}
 use Rattle.rules.proofs.Changes.{Thin, Thins, none, one, left_in, left_by}
 use Rattle.rules.proofs.History.Moves.{is_whole, Like, Back, Left, gone, back}
@@ -22,6 +22,14 @@ part_left p t l = pick (eqb t 0) (left_by (close_end p) l) (end_left t (left_by 
 -- the served link, which was l and is x by now, goes back with the outcome o and the ending token e
 unfoldable pub hand_left : ℕ → ℕ → Link → Link
 hand_left o e x = pick (is_attached x) (returned x o e) no_link
+
+-- where the originator's end is open then, it was before, and the link has returned
+pub hand_open : {X : Type 0} (o e : ℕ) (x : Link) → is_attached (hand_left o e x) ≡ true
+    → (is_attached x ≡ true → hand_left o e x ≡ returned x o e → X) → X
+unfolding hand_left
+hand_open o e x a f = test (is_attached x)
+    (λ y. f y (pick_true _ _ _ y))
+    (λ n. not_both (rw (pick_false (is_attached x) (returned x o e) no_link n) at a) no_link_attached)
 
 -- ---- the closing leaves of a link none or one, with its number
 pub close_thin : (p : ℕ) → Thins (close_end p)
@@ -46,6 +54,10 @@ close_fade p l = by_test (λ xs. Fade l (left_in xs))
 part_fade : (p t : ℕ) (l : Link) → Fade l (part_left p t l)
 unfolding part_left
 part_fade p t l = by_test (Fade l) (λ _. close_fade p l) (λ _. end_fade t l _ (close_fade p l))
+
+-- a link whose originator's end is open then is as it was
+pub part_open : (p t : ℕ) (l : Link) → is_attached (part_left p t l) ≡ true → part_left p t l ≡ l
+part_open p t l a = fade_open l _ (part_fade p t l) a
 
 -- ---- a working link works on
 close_works : (p : ℕ) (l : Link) → Works l → Works (left_by (close_end p) l)

@@ -31,7 +31,7 @@ pub request_end_none : (p : ℕ) → request_end p no_link ≡ false
 unfolding request_end own_end no_link
 request_end_none p = refl
 
-request_attached : (p : ℕ) (l : Link) → request_end p l ≡ true → is_attached l ≡ true
+pub request_attached : (p : ℕ) (l : Link) → request_end p l ≡ true → is_attached l ≡ true
 unfolding request_end own_end
 request_attached p l e = and_l _ _ (and_r (is_request l) _ e)
 

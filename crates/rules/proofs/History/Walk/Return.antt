@@ -127,9 +127,10 @@ plain_ends a = by_test Ending (λ _. refl) (λ _. refl)
 outcome_ends : (m : Monitor) (p a t : ℕ) (l : Link) → is_ending (outcome_of m p a t l) ≡ true
 unfolding outcome_of
 outcome_ends m p a t l = by_test Ending (λ _. refl)
+    (λ _. by_test Ending (λ _. refl)
     (λ _. by_test Ending
     (λ _. by_test Ending (λ _. refl) (λ _. by_test Ending (λ _. plain_ends a) (λ _. by_test Ending (λ _. refl) (λ _. refl))))
-    (λ _. plain_ends a))
+    (λ _. plain_ends a)))
 
 -- the party afterwards, of a return
 shed_mark : (x : Party) → (same x.owned 0 ≡ true → is_rollback_only x ≡ false) → is_rollback_only (shed x) ≡ false
