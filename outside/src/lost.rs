@@ -91,7 +91,7 @@ impl Fates {
                 ended == Some(&(told, token))
             }
             17 | 18 if matches!(event, 2 | 4 | 8) => self.ended.get(&a) == Some(&(event, token)),
-            // What was unread went with an error.
+            // After an error nothing is accepted: what was unread went with it.
             17 | 18 if event != 1 => self.ended.get(&a).is_none_or(|ended| ended.0 != 2),
             20 => self.outcome(party, a, c) == Some(value),
             21 => value == self.seen.served(party).map_or(0, |_| 2),

@@ -6,9 +6,9 @@
 //! and T; a fetch of any reply is told by fetches by number; a commit's code is
 //! the most severe of what its managers' reports give two by two; what a right
 //! forbids is 35 and the rest is as with all rights; a success in a lost
-//! transaction is told by a fall, and any other by a transaction that is not lost; a list does what its calls
-//! do; a drill file is read as written; and the same on records no list reaches,
-//! made by changing fields at random. Of a history, its rights, whether something
+//! transaction is told by a fall, and any other by a transaction that is not lost;
+//! a list does what its calls do; a drill file is read as written; and the same on
+//! records no list reaches, made by changing fields at random. Of a history, its rights, whether something
 //! was there to take, fetch, receive or have room for, and how its services end
 //! are also read off the calls and answers alone.
 
