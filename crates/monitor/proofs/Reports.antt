@@ -1,28 +1,23 @@
 -- A party's four reports: as many as it is declared with, and tests of each of them.
 -- Assumes nothing.
-use Rattle.std.proofs.Common.{ℕ, ◌≡◌, refl, ap, sym, ◌∙◌, Bool, not, ◌&&◌, ◌||◌, List, [], ◌∷◌}
+use Rattle.std.proofs.Common.{ℕ, ◌≡◌, refl, sym, Bool, not, ◌&&◌, ◌||◌, List, [], ◌∷◌}
 use Rattle.std.proofs.Common.{eq-eqb, ltb, leb, length, get_or, rules}
 use mir.Val.{Val}
 use denote.Laws.{Is}
 use denote.Struct.Declared.{row}
-use Rattle.std.specs.List.{list_any, list_all}
+use Rattle.std.specs.List.{list_all}
 use Rattle.rules.specs.contracts.Party.{the_type}
 use Rattle.rules.specs.declared.Party.{Party}
 use Rattle.rules.specs.Choice.{pick}
 use Rattle.rules.specs.Lists.{any_of}
 use Rattle.rules.specs.Sound.{reports_good}
 use Rattle.rules.specs.Votes.{all_can_start}
-use Rattle.rules.proofs.Logic.{test, pick_or, not_or}
+use Rattle.rules.proofs.Logic.{test, not_or}
 use Rattle.rules.proofs.Votes.{any_four}
 
 -- what owning a party tells: its array is as long as it is declared
 pub reports_long : (q : Party) (vs : List Val) → Is (row the_type) q vs → length q.reports ≡ 4
 reports_long q vs p = p.1.1.1.1.1.1.1.1.1.1.0.1.0.1
-
-pub some_pass : (f : ℕ → Bool) (rs : List ℕ) → list_any f rs ≡ any_of f rs
-unfolding any_of
-some_pass f [] = refl
-some_pass f (r ∷ rs) = ap (λ b. f r || b) (some_pass f rs) ∙ sym (pick_or (f r) (any_of f rs))
 
 -- each passes g where none passes f
 none_pass : (f g : ℕ → Bool) → ((r : ℕ) → g r ≡ not (f r)) → (rs : List ℕ) → list_all g rs ≡ not (any_of f rs)

@@ -45,44 +45,48 @@ module _ {A : Type 0} (f : A → Bool) where
         let r = stands i s h in
         omega arith
 
-    all_fail : (d : ℕ) → d ≤ length s → ((k : ℕ) → k < d → f (at k) ≡ false) → d ≤ first_of f s
-    all_fail zero b each = omega arith
-    all_fail (suc d) b each =
-        let r = fails d (omega arith) (all_fail d (omega arith) (λ k c. each k (omega arith))) (each d (omega arith)) in
-        omega arith
+    -- none from the place `from` on, before which none passes
+    module _ {from : ℕ} (before : from ≤ first_of f s) where
+      all_fail : (d : ℕ) → d ≤ length s → ((k : ℕ) → from ≤ k → k < d → f (at k) ≡ false) → d ≤ first_of f s
+      all_fail zero b each = omega arith
+      all_fail (suc d) b each = ⊎_elim
+          (λ c. omega arith)
+          (λ e. let r = fails d (omega arith) (all_fail d (omega arith) (λ k u c. each k u (omega arith))) (each d (omega arith) (omega arith)) in omega arith)
+          (cases_lt d from)
 
-    module _ {tested : ℕ → Bool → Type 0} {n : ℕ} (e : n ≡ length s)
+    module _ {tested : ℕ → Bool → Type 0} {from n : ℕ} (e : n ≡ length s) (before : from ≤ first_of f s)
         (asks : (i : ℕ) (b : Bool) → i < n → tested i b → b ≡ f (at i)) where
-      failing : (i : ℕ) → i ≤ n → ((k : ℕ) → k < i → tested k false) → i ≤ first_of f s
-      failing i b each = all_fail i (omega arith) (λ k d. sym (asks k false (omega arith) (each k d)))
+      failing : (i : ℕ) → i ≤ n → ((k : ℕ) → from ≤ k → k < i → tested k false) → i ≤ first_of f s
+      failing i b each = all_fail before i (omega arith) (λ k u d. sym (asks k false (omega arith) (each k u d)))
 
-      pub found_place : (r : Option ℕ) → first_place tested n r → r ≡ place_among n (first_of f s)
+      pub found_place : (r : Option ℕ) → first_place tested from n r → r ≡ place_among n (first_of f s)
       found_place None none =
           let w = first_within f s in
           let r = failing n (omega arith) none in
           sym (pick_false _ _ _ (le-ltb (first_of f s) n (omega arith)))
       found_place (Some i) found =
-          let r = passes i (omega (arith, found.0)) (failing i (omega (arith, found.0)) found.2) (sym (asks i true found.0 found.1)) in
-          sym (ap (place_among n) r ∙ pick_true _ _ _ (lt-ltb i n found.0))
+          let r = passes i (omega (arith, found.1)) (failing i (omega (arith, found.1)) found.3) (sym (asks i true found.1 found.2)) in
+          sym (ap (place_among n) r ∙ pick_true _ _ _ (lt-ltb i n found.1))
 
 -- what was found is below where all end
-pub found_within : (tested : ℕ → Bool → Type 0) {n m : ℕ} (r : Option ℕ) → first_place tested n r → n ≡ m → IfSome r (λ i. i < m)
-found_within tested None found e = tt
-found_within tested (Some i) found e = omega (arith, found.0)
+pub found_within : (tested : ℕ → Bool → Type 0) (from : ℕ) {n m : ℕ} (r : Option ℕ) → first_place tested from n r → n ≡ m → IfSome r (λ i. i < m)
+found_within tested from None found e = tt
+found_within tested from (Some i) found e = omega (arith, found.1)
 
 -- ---- among the links there are, and among the parties
-pub found_link : (xs : List ℕ) {tested : ℕ → Bool → Type 0} {n : ℕ} {r : Option ℕ} → (view xs).count ≤ 32 → n ≡ (view xs).count → first_place tested n r
-    → (f : Link → Bool) → ((i : ℕ) (b : Bool) → i < 32 → tested i b → b ≡ f (link_in (view xs) i)) → r ≡ place_among (view xs).count (first_of f (live (view xs)))
-found_link xs {r = r} h e found f asks =
+pub found_link : (xs : List ℕ) {tested : ℕ → Bool → Type 0} {from n : ℕ} {r : Option ℕ} → (view xs).count ≤ 32 → n ≡ (view xs).count
+    → first_place tested from n r → (f : Link → Bool) → from ≤ first_of f (live (view xs))
+    → ((i : ℕ) (b : Bool) → i < 32 → tested i b → b ≡ f (link_in (view xs) i)) → r ≡ place_among (view xs).count (first_of f (live (view xs)))
+found_link xs {r = r} h e found f before asks =
     let l = live_long xs h in
-    found_place f (live (view xs)) (link_in (view xs)) (λ j k. next_live xs j h (omega arith)) (e ∙ sym l) (λ i b k t. asks i b (omega arith) t) r found
+    found_place f (live (view xs)) (link_in (view xs)) (λ j k. next_live xs j h (omega arith)) (e ∙ sym l) before (λ i b k t. asks i b (omega arith) t) r found
     ∙ ap (λ (m : ℕ). place_among m (first_of f (live (view xs)))) e
 
-pub found_party : (xs : List ℕ) {tested : ℕ → Bool → Type 0} {r : Option ℕ} → first_place tested 16 r
+pub found_party : (xs : List ℕ) {tested : ℕ → Bool → Type 0} {r : Option ℕ} → first_place tested 0 16 r
     → (f : Party → Bool) → ((p : ℕ) (b : Bool) → p < 16 → tested p b → b ≡ f (party (view xs) p)) → r ≡ place_among 16 (first_of f (view xs).parties)
 found_party xs {r = r} found f asks =
     let l = parties_long 16 0 xs in
-    found_place f (view xs).parties (party (view xs)) (λ j k. next_party xs j (omega arith)) (sym l) asks r found
+    found_place f (view xs).parties (party (view xs)) (λ j k. next_party xs j (omega arith)) (sym l) (omega arith) asks r found
 
 -- ---- what it says of the place
 -- one was found: it is the place, and among the n
@@ -117,6 +121,12 @@ module _ (xs : List ℕ) (f : Link → Bool) (h : (view xs).count ≤ 32) {r : O
 
   pub link_there : is_some r ≡ any_of f (live (view xs))
   link_there = is_there _ _ e ∙ ap (ltb (first_of f (live (view xs)))) (sym (live_long xs h)) ∙ sym (any_first f (live (view xs)))
+
+  pub some_link : {i : ℕ} → r ≡ Some i → any_of f (live (view xs)) ≡ true
+  some_link z = sym link_there ∙ ap is_some z
+
+  pub no_link : r ≡ None → any_of f (live (view xs)) ≡ false
+  no_link z = sym link_there ∙ ap is_some z
 
 -- of the parties
 module _ (xs : List ℕ) (f : Party → Bool) {r : Option ℕ} (e : r ≡ place_among 16 (first_of f (view xs).parties)) where

@@ -1,6 +1,6 @@
 -- The record of document 01 read off its words, every one of them, and what a rule tells beside it.
 -- Assumes nothing.
-use Rattle.std.specs.Prelude.{Result, Ok, Err, ℕ, zero, suc, ◌-◌, ◌<◌, ◌≡◌, Bool, true, false, List, [], ◌∷◌, Option, Some, None, MatchOption, option_to_list, eqb, ltb, length, get_or, drop, ℤ}
+use Rattle.std.specs.Prelude.{Result, Ok, Err, ℕ, zero, suc, ◌-◌, ◌<◌, ◌≤◌, ◌≡◌, Bool, true, false, List, [], ◌∷◌, Option, Some, None, MatchOption, option_to_list, eqb, ltb, length, get_or, drop, ℤ}
 use Rattle.std.proofs.Math.Seq.{paste}
 use Rattle.rules.specs.declared.Party.{Party}
 use Rattle.rules.specs.declared.Link.{Link}
@@ -59,12 +59,12 @@ abbrev pub Stands : Monitor → Found → Type 0
 Stands m found = (found.place ≡ place_of m found.link.number) × (found.place < m.count)
 
 -- ---- what a search finds
--- the first place below `to` that the code's test passes, or none
-abbrev pub first_place : (ℕ → Bool → Type 0) → ℕ → Option ℕ → Type 0
-first_place tested to found =
+-- the first place from one on and below `to` that the code's test passes, or none
+abbrev pub first_place : (ℕ → Bool → Type 0) → ℕ → ℕ → Option ℕ → Type 0
+first_place tested from to found =
     MatchOption found
-    ((k : ℕ) → k < to → tested k false)
-    (λ i. (i < to) × tested i true × ((k : ℕ) → k < i → tested k false))
+    ((k : ℕ) → from ≤ k → k < to → tested k false)
+    (λ i. (from ≤ i) × (i < to) × tested i true × ((k : ℕ) → from ≤ k → k < i → tested k false))
 
 -- the place k where it is one of n, and none past them
 abbrev pub place_among : ℕ → ℕ → Option ℕ

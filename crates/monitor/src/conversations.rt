@@ -7,7 +7,7 @@ ghost use Rattle.monitor.specs.View.{view, Stands, ruled_by, told_of};
 
 use super::Told;
 use super::found::Found;
-use super::links::{accept, coded, disconnect_link, find_link, is_own_end, remove};
+use super::links::{accept, coded, disconnect_link, find_link, is_own_end, remove_at};
 use super::party::PartyNumber;
 use super::transaction::{is_expired, set_rollback_only};
 use super::words::{WORDS, put_link};
@@ -87,16 +87,17 @@ pub(crate) fn tell_disconnect(s: &mut [u32; WORDS], found: Found) -> Told
     }
 }
 
-// The originator learns how the service returned, and its link l goes.
+// The originator learns how the service returned, and its link, which was found, goes.
 #[tactic(auto, unfolding(rules::specs::Conversations::tells_return))]
-pub(crate) fn tell_return(s: &mut [u32; WORDS], l: Link) -> Told
-    requires { (view s.old).count ≤ 32 }
-    ensures { ruled_by result (view s.new) ≡ tells_return (view s.old) l.number l }
+pub(crate) fn tell_return(s: &mut [u32; WORDS], found: Found) -> Told
+    requires { ((view s.old).count ≤ 32) × Stands (view s.old) found }
+    ensures { ruled_by result (view s.new) ≡ tells_return (view s.old) found.link.number found.link }
 {
-    remove(s, l.number);
+    let Found { place, link } = found;
+    remove_at(s, place, link.number);
     Told {
-        event: l.outcome,
-        token: l.ending,
+        event: link.outcome,
+        token: link.ending,
         ..coded(codes::TPEEVENT)
     }
 }
@@ -152,7 +153,7 @@ pub(crate) fn tpsend(
         return Ok(tell_disconnect(s, found));
     }
     if hears_return(p, l) && l.outcome != codes::TPEV_SVCSUCC {
-        return Ok(tell_return(s, l));
+        return Ok(tell_return(s, found));
     }
     if !(is_sender(p, l) && l.granting == 0) {
         return Err(Refusal::NotAllowedNow);
@@ -224,7 +225,7 @@ pub(crate) fn tprecv(s: &mut [u32; WORDS], p: PartyNumber, a: u32) -> Result<Tol
         return Ok(tell_disconnect(s, found));
     }
     if hears_return(p, l) {
-        return Ok(tell_return(s, l));
+        return Ok(tell_return(s, found));
     }
     if is_sender(p, l) {
         return Err(Refusal::NotAllowedNow);
@@ -246,7 +247,7 @@ pub(crate) fn disconnect(s: &mut [u32; WORDS], found: Found)
         put_link(s, place, disconnect_link(link));
         return;
     }
-    remove(s, link.number);
+    remove_at(s, place, link.number);
 }
 
 // Kind 19.

@@ -1,6 +1,6 @@
 // Kinds 15 and 16: a request's reply fetched, or given up.
 ghost use Rattle.std.specs.Prelude.{◌≡◌, true, ◌≤◌};
-ghost use Rattle.rules.specs.Lists.{any_of};
+ghost use Rattle.rules.specs.Lists.{first_of, any_of};
 ghost use Rattle.rules.specs.Record.{is_ending, live};
 ghost use Rattle.rules.specs.Replies.{request_end, outcome_code, fetched, fetch_one, expired_end, replied_end, next_reply, fetch_any, fetch_of};
 ghost use Rattle.rules.specs.Replies.{cancelled, cancel_of};
@@ -9,9 +9,9 @@ ghost use Rattle.monitor.specs.View.{view, Stands, place_among, ruled_by, told_o
 
 use super::Told;
 use super::found::Found;
-use super::links::{accept, close_end, find_link, is_own_end, remove};
+use super::links::{accept, close_end, find_link, is_own_end, remove_at};
 use super::party::PartyNumber;
-use super::searches::first_link;
+use super::searches::{first_link, first_link_from};
 use super::transaction::is_expired;
 use super::words::{WORDS, link_at, put_link};
 use rules::{Link, Refusal, codes};
@@ -34,17 +34,18 @@ pub(crate) fn outcome_code(o: u32) -> i64
     i64::from(code)
 }
 
-// The reply of the link l is taken, and the link goes; the value is v.
+// The reply of the link found is taken, and the link goes; the value is v.
 #[tactic(auto, unfolding(rules::specs::Replies::fetched))]
-pub(crate) fn fetch(s: &mut [u32; WORDS], l: Link, v: u32) -> Told
-    requires { ((view s.old).count ≤ 32) × (is_ending l.outcome ≡ true) }
-    ensures { ruled_by result (view s.new) ≡ fetched (view s.old) l.number l v }
+pub(crate) fn fetch(s: &mut [u32; WORDS], found: Found, v: u32) -> Told
+    requires { ((view s.old).count ≤ 32) × Stands (view s.old) found × (is_ending found.link.outcome ≡ true) }
+    ensures { ruled_by result (view s.new) ≡ fetched (view s.old) found.link.number found.link v }
 {
-    remove(s, l.number);
+    let Found { place, link } = found;
+    remove_at(s, place, link.number);
     Told {
-        code: outcome_code(l.outcome),
+        code: outcome_code(link.outcome),
         value: v,
-        token: l.ending,
+        token: link.ending,
         ..Told::default()
     }
 }
@@ -65,7 +66,7 @@ pub(crate) fn fetch_one(s: &mut [u32; WORDS], p: PartyNumber, a: u32) -> Result<
     if l.state != 2 {
         return Err(Refusal::NoReplyYet);
     }
-    Ok(fetch(s, l, 0))
+    Ok(fetch(s, found, 0))
 }
 
 // Is it an open request end of party p's, of an expired transaction?
@@ -84,49 +85,48 @@ pub(crate) fn is_replied_end(p: PartyNumber, l: Link) -> bool
     is_request_end(p, l) && l.state == 2
 }
 
-// Has party p an open request end?
-#[tactic(auto, using(crate::proofs::Search::link_there))]
-pub(crate) fn has_request_end(s: &[u32; WORDS], p: PartyNumber) -> bool
+// The place of party p's first open request end. Handed on: what is asked of such ends is asked from there on.
+pub(crate) fn first_request_end(s: &[u32; WORDS], p: PartyNumber) -> Option<usize>
     requires { (view s.now).count ≤ 32 }
-    ensures { result ≡ any_of (request_end p.index) (live (view s.now)) }
+    ensures { result ≡ place_among (view s.now).count (first_of (request_end p.index) (live (view s.now))) }
 {
-    first_link(s, |l| is_request_end(p, l)).is_some()
+    first_link(s, |l| is_request_end(p, l))
 }
 
-// Has one of them an expired transaction?
-#[tactic(auto, using(crate::proofs::Search::link_there))]
-pub(crate) fn has_expired_end(s: &[u32; WORDS], p: PartyNumber) -> bool
-    requires { (view s.now).count ≤ 32 }
+// Has one of them an expired transaction? The first of them stands at the place `from`.
+#[tactic(auto, using(crate::proofs::Search::link_there, crate::proofs::Replied::expired_from))]
+pub(crate) fn has_expired_end(s: &[u32; WORDS], p: PartyNumber, from: usize) -> bool
+    requires { ((view s.now).count ≤ 32) × (from ≡ first_of (request_end p.index) (live (view s.now))) }
     ensures { result ≡ any_of (expired_end (view s.now) p.index) (live (view s.now)) }
 {
-    first_link(s, |l| is_expired_end(s, p, l)).is_some()
+    first_link_from(s, from, |l| is_expired_end(s, p, l)).is_some()
 }
 
-// The place of party p's returned request with the lowest number.
-pub(crate) fn next_reply(s: &[u32; WORDS], p: PartyNumber) -> Option<usize>
-    requires { (view s.now).count ≤ 32 }
+// The place of the returned one with the lowest number. The first of all stands at the place `from`.
+pub(crate) fn next_reply(s: &[u32; WORDS], p: PartyNumber, from: usize) -> Option<usize>
+    requires { ((view s.now).count ≤ 32) × (from ≡ first_of (request_end p.index) (live (view s.now))) }
     ensures { result ≡ place_among (view s.now).count (next_reply (view s.now) p.index) }
 {
-    first_link(s, |l| is_replied_end(p, l))
+    first_link_from(s, from, |l| is_replied_end(p, l))
 }
 
 // Whichever reply is there.
-#[tactic(auto, using(crate::proofs::Laws::sound_room, crate::proofs::Laws::read_live, crate::proofs::Replied::next_ended, crate::proofs::Search::found_some, crate::proofs::Search::found_none), unfolding(rules::specs::Replies::fetch_any, rules::specs::Choice::pick))]
+#[tactic(auto, using(crate::proofs::Laws::sound_room, crate::proofs::Laws::read_live, crate::proofs::Laws::read_first, crate::proofs::Replied::next_ended, crate::proofs::Search::some_link, crate::proofs::Search::no_link, crate::proofs::Search::found_some, crate::proofs::Search::found_none), unfolding(rules::specs::Replies::fetch_any, rules::specs::Choice::pick))]
 pub(crate) fn fetch_any(s: &mut [u32; WORDS], p: PartyNumber) -> Result<Told, Refusal>
     requires { sound (view s.old) ≡ true }
     ensures { ruled_by (told_of result) (view s.new) ≡ fetch_any (view s.old) p.index }
 {
-    if !has_request_end(s, p) {
+    let Some(from) = first_request_end(s, p) else {
         return Err(Refusal::NoSuchEnd);
-    }
-    if has_expired_end(s, p) {
+    };
+    if has_expired_end(s, p, from) {
         return Err(Refusal::TimedOut);
     }
-    let Some(next) = next_reply(s, p) else {
+    let Some(place) = next_reply(s, p, from) else {
         return Err(Refusal::NoReplyYet);
     };
-    let l = link_at(s, next);
-    Ok(fetch(s, l, l.number))
+    let link = link_at(s, place);
+    Ok(fetch(s, Found { place, link }, link.number))
 }
 
 // Kind 15.
@@ -155,7 +155,7 @@ pub(crate) fn cancel(s: &mut [u32; WORDS], found: Found)
 {
     let Found { place, link } = found;
     if link.state == 2 {
-        remove(s, link.number);
+        remove_at(s, place, link.number);
     } else {
         put_link(s, place, close_end(link));
     }

@@ -161,7 +161,7 @@ pub(crate) fn is_idle(s: &[u32; WORDS], p: PartyNumber) -> bool
 pub(crate) fn is_for(q: Party, l: Link) -> bool
     ensures { result ≡ fits q l }
 {
-    l.state == 0 && is_offering(l.service, q)
+    (l.state == 0) & is_offering(l.service, q)
 }
 
 // The place of the waiting link with the lowest number.

@@ -11,7 +11,7 @@ use super::Told;
 use super::conversations::is_originator_end;
 use super::links::{
     accept, change_at, close_end, disconnect_link, drop_unread, first_own, has_own_end, is_own_end,
-    live_at, place_of, remove, sweep,
+    live_at, place_of, remove_at, sweep,
 };
 use super::party::PartyNumber;
 use super::transaction::{end_tx, first_of_tx, is_lost, set_rollback_only};
@@ -190,7 +190,7 @@ pub(crate) fn hand_back(s: &mut [u32; WORDS], d: u32, o: Outcome, e: u32)
         };
         change_at(s, i, k);
     } else {
-        remove(s, d);
+        remove_at(s, i, d);
     }
 }
 

@@ -69,14 +69,16 @@ impl Reported {
         ensures { result ≡ report_is (kind_of self) r }
     {
         let b = self.number();
-        r == 1 + b || r == 8 + b
+        (r == 1 + b) | (r == 8 + b)
     }
 
-    // Has a manager reported it?
+    // Has a manager reported it? By `|`, as all that a commit asks of the reports: by `any`, `&&` and `||`, one beside 31 links of others' took 1.5 times
+    // as long.
+    #[tactic(auto, using(rules::proofs::Votes::any_four))]
     pub(crate) fn is_among(self, rs: [u32; 4]) -> bool
         ensures { result ≡ any_of (report_is (kind_of self)) rs }
     {
-        rs.iter().any(|&r| self.is(r))
+        self.is(rs[0]) | (self.is(rs[1]) | (self.is(rs[2]) | self.is(rs[3])))
     }
 }
 
@@ -129,13 +131,14 @@ pub(crate) fn committed(can: bool, rs: [u32; 4]) -> TxEnd
     ensures { code_of_end result ≡ commit_code can rs }
 {
     let veto = Reported::Veto.is_among(rs);
-    let decision = can && !veto;
+    let decision = can & !veto;
     let prepared = Reported::Prepared.is_among(rs);
     // Does one count as committed, and does one as rolled back?
-    let committed = Reported::Committed.is_among(rs) || decision && prepared;
-    let back = Reported::RolledBack.is_among(rs) || veto || !decision && prepared;
+    let committed = Reported::Committed.is_among(rs) | (decision & prepared);
+    let back = Reported::RolledBack.is_among(rs) | (veto | (!decision & prepared));
+    let mixed = Reported::Mixed.is_among(rs);
     let hazard = Reported::Hazard.is_among(rs);
-    if Reported::Mixed.is_among(rs) || committed && back {
+    if mixed | (committed & back) {
         TxEnd::Mixed
     } else if hazard {
         TxEnd::Hazard
@@ -145,7 +148,7 @@ pub(crate) fn committed(can: bool, rs: [u32; 4]) -> TxEnd
         } else {
             TxEnd::Committed
         }
-    } else if back || !decision {
+    } else if back | !decision {
         TxEnd::RolledBack
     } else {
         TxEnd::AsAsked
