@@ -26,7 +26,7 @@ impl Waiting {
         ensures within { IfOk result (λ w. w.count ≤ length input.old) }
         ensures onward { IfOk result (λ w. self.count ≤ length input.old → self.count ≤ w.count) }
         ensures kept { take self.count input.new ≡ take self.count input.old }
-        ensures error { IfErr result (λ e. e ≡ Failure.CannotRead) }
+        ensures error { IfErr result (λ e. (e ≡ Failure.CannotRead) × (self.count < length input.old)) }
     {
         if input.len() <= self.count {
             return Ok(Waiting {
