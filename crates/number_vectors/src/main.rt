@@ -44,9 +44,16 @@ const INPUTS: [&[u8]; 24] = [
 // The greatest number of each length; it keeps of a number what that length holds.
 const GREATEST: [u32; 5] = [127, 16383, 2097151, 268435455, 4294967295];
 
+// Bytes that cannot be written are passed over, and what follows is tried.
+fn show_bytes(out: &impl Print, bytes: &[u8]) {
+    let _ = print!(out; "{}", Hex(bytes));
+}
+
 // Errors are printed as the codes that a file is refused with: their types are of another crate, so `Display` would need a wrapper for each.
 fn show_read(out: &impl Print, input: &[u8], place: usize) -> io::Result<()> {
-    print!(out; "read{} at {place}: ", Hex(input))?;
+    print!(out; "read")?;
+    show_bytes(out, input);
+    print!(out; " at {place}: ")?;
     match number::decode(input, place) {
         Ok((value, next)) => println!(out; "{value} next {next}"),
         Err(ReadError::CutShort) => println!(out; "refused 17"),
@@ -61,7 +68,9 @@ fn show_write(out: &impl Print, buffer: &mut [u8], place: usize, value: u32) -> 
         Ok(next) => print!(out; "next {next}")?,
         Err(NoRoom) => print!(out; "refused 16")?,
     }
-    println!(out; " in{}", Hex(buffer))?;
+    print!(out; " in")?;
+    show_bytes(out, buffer);
+    println!(out)?;
     show_read(out, buffer, place)
 }
 

@@ -1,10 +1,9 @@
 // Calls read from the bytes of a drill file, and written into a buffer.
-use super::stored::load;
-use hex_io::Hex;
+use super::show::bytes;
+use super::stored::{ROOM, load};
 use monitor::WriteError;
 use number::ReadError;
 use rules::Call;
-use std::alloc::AllocError;
 use std::io;
 
 // `wire_vectors` prints a call as here: `Display` for it would be public in `rules`, with a contract of its own, for the two.
@@ -43,24 +42,26 @@ fn read_places(rt: &impl Print, name: &str, input: &[u8]) -> io::Result<()> {
 
 pub fn reads(rt: &HostRuntime) -> io::Result<()> {
     for name in ["case-06", "case-45"] {
-        read_places(rt, name, load(rt, name).as_slice())?;
+        let mut bytes = [0; ROOM];
+        read_places(rt, name, load(rt, name, &mut bytes))?;
     }
     Ok(())
 }
 
-// The numbers of a file's calls, each of which takes a byte or more; the next place is what `read_call` tells. Here alone a call becomes its six numbers,
-// so no `From` stands for it.
-pub fn numbers(rt: &HostRuntime, input: &[u8]) -> Result<Vec<u32>, AllocError> {
-    let mut list = Vec::new(rt.alloc());
+// The numbers of a file's first 39 calls, and zeros where it has fewer, so that each row has what it takes; the next place is what `read_call` tells.
+// Here alone a call becomes its six numbers, so no `From` stands for it.
+pub fn numbers(input: &[u8]) -> [u32; 234] {
+    let mut list = [0; 234];
     let mut at = 0;
-    for _ in 0..input.len() {
+    let (sixes, _) = list.as_chunks_mut::<6>();
+    for six in sixes {
         let Ok(Some((call, next))) = monitor::read_call(input, at) else {
             break;
         };
-        list.extend_from_slice(&[call.clock, call.party, call.kind, call.a, call.b, call.c])?;
+        *six = [call.clock, call.party, call.kind, call.a, call.b, call.c];
         at = next;
     }
-    Ok(list)
+    list
 }
 
 // Writes a list at a place, shows the buffer, and reads there.
@@ -75,7 +76,9 @@ fn show_write(rt: &impl Print, list: &[u32], place: usize, buffer: &mut [u8]) ->
         Err(WriteError::NoRoom) => print!(rt; "16")?,
         Err(WriteError::Unfinished) => print!(rt; "17")?,
     }
-    println!(rt; ",{}", Hex(buffer))?;
+    print!(rt; ",")?;
+    bytes(rt, buffer);
+    println!(rt)?;
     let next = show_read(rt, "there", buffer, place)?;
     show_read(rt, "there", buffer, next)?;
     Ok(())
@@ -114,6 +117,7 @@ fn write_list(rt: &impl Print, list: &[u32]) -> io::Result<()> {
 }
 
 pub fn writes(rt: &HostRuntime) -> io::Result<()> {
-    let list = numbers(rt, load(rt, "case-06").as_slice())?;
-    write_list(rt, list.as_slice())
+    let mut bytes = [0; ROOM];
+    let list = numbers(load(rt, "case-06", &mut bytes));
+    write_list(rt, &list)
 }

@@ -2,7 +2,7 @@
 ghost use Rattle.std.specs.Prelude.{◌≤◌};
 
 use super::show::{ends, places};
-use super::stored::{PLACES, kept, load, unsound};
+use super::stored::{PLACES, ROOM, kept, load, unsound};
 use monitor::Store;
 use std::io;
 
@@ -66,7 +66,8 @@ impl Case {
 
     // Runs all of it.
     fn whole(self, rt: &HostRuntime, m: Store) -> io::Result<()> {
-        self.run(rt, m, load(rt, self.name).as_slice())
+        let mut bytes = [0; ROOM];
+        self.run(rt, m, load(rt, self.name, &mut bytes))
     }
 }
 
@@ -109,7 +110,8 @@ pub fn files(rt: &HostRuntime) -> io::Result<()> {
     ] {
         case.whole(rt, Store::fresh())?;
     }
-    cut_files(rt, load(rt, "case-06").as_slice())?;
+    let mut bytes = [0; ROOM];
+    cut_files(rt, load(rt, "case-06", &mut bytes))?;
     println!(rt; "last transaction number 60001")?;
     for case in [
         By::File.on("case-00", 27),
@@ -138,7 +140,8 @@ pub fn pieces(rt: &HostRuntime) -> io::Result<()> {
     ] {
         case.whole(rt, Store::fresh())?;
     }
-    cut_pieces(rt, load(rt, "case-06").as_slice())?;
+    let mut bytes = [0; ROOM];
+    cut_pieces(rt, load(rt, "case-06", &mut bytes))?;
     println!(rt; "last transaction number 60001")?;
     for case in [GOES_ON.on("case-00", 27), ENDS.on("case-43", 0)] {
         case.whole(rt, unsound())?;

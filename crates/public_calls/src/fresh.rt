@@ -1,7 +1,7 @@
 // Lists on a fresh monitor, and a record that is made fresh.
 use super::calls::numbers;
 use super::show::{places, yes};
-use super::stored::{PLACES, all_of, load, unsound};
+use super::stored::{PLACES, ROOM, all_of, load, unsound};
 use monitor::Store;
 use std::io;
 
@@ -38,10 +38,10 @@ fn list_of(
 
 // The calls of the file base.
 pub fn lists(rt: &HostRuntime, base: Store) -> io::Result<()> {
-    let numbers = numbers(rt, load(rt, "base").as_slice())?;
-    let list = numbers.as_slice();
+    let mut bytes = [0; ROOM];
+    let list = numbers(load(rt, "base", &mut bytes));
     for (count, room) in [(234, 237), (234, 233), (233, 237), (233, 0), (6, 6), (0, 0)] {
-        list_of(rt, base, list, count, room)?;
+        list_of(rt, base, &list, count, room)?;
     }
     Ok(())
 }

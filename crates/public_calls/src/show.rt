@@ -1,4 +1,5 @@
 // What is written: words for yes and no and for the input's end, answer places.
+use hex_io::Hex;
 use std::io;
 
 // A word for each answer, here and below: a `Display` of a bool's own would need a wrapper for each.
@@ -9,6 +10,11 @@ pub fn yes(is: bool) -> &'static str {
 // Does the input end with the bytes in hand?
 pub fn ends(last: bool) -> &'static str {
     if last { "ends" } else { "goes on" }
+}
+
+// Bytes. Where they cannot be written they are passed over, and what follows is tried.
+pub fn bytes(rt: &impl Print, bytes: &[u8]) {
+    let _ = print!(rt; "{}", Hex(bytes));
 }
 
 // Answer places, six to a line.

@@ -1,7 +1,8 @@
 // Stored drill files, and the records that cases start from.
+ghost use Rattle.std.specs.Prelude.{◌≤◌, length};
+
 use super::records::tells_rights;
 use monitor::Store;
-use std::fs::File;
 use std::io::Read;
 use std::{fs, io};
 
@@ -15,29 +16,45 @@ fn tell(rt: &HostRuntime, name: &str, error: io::Error) -> io::Result<()> {
     eprintln!(rt; "{name}: {why}")
 }
 
-// The first bytes of a file, at most 4,096. Where a read fails, those before it.
-pub fn first_bytes(rt: &HostRuntime, file: File) -> Vec<u8> {
-    let mut bytes = Vec::new(rt.alloc());
-    let _ = file.take(4096).read_to_end(&mut bytes);
-    bytes
+// How many bytes of a stored file are read at most.
+pub const ROOM: usize = 4096;
+
+// Reads until the buffer is full, the file ends or a read fails, and tells how many bytes it put at the buffer's front. A buffer, and no `Vec`, here and
+// where files are read: it asks for no memory, without which less would be read and nothing told.
+pub fn read_full<R: Read>(source: &mut R, buffer: &mut [u8]) -> usize
+    ensures { result ≤ length buffer.new }
+{
+    let mut done = 0;
+    while done < buffer.len() {
+        let more = source.read(&mut buffer[done..]).unwrap_or(0);
+        if more == 0 {
+            return done;
+        }
+        done += more;
+    }
+    done
 }
 
-// The first bytes of a stored file; nothing where it cannot be opened, which is told. `drill_cases` has the like: no library that both use has a heap.
-pub fn load(rt: &HostRuntime, name: &str) -> Vec<u8> {
+// The first bytes of a stored file, as many as the buffer holds; nothing where it cannot be opened, which is told. `drill_cases` has the like.
+pub fn load<'a>(rt: &HostRuntime, name: &str, buffer: &'a mut [u8]) -> &'a [u8] {
     match fs::open(rt, name) {
-        Ok(file) => first_bytes(rt, file),
+        Ok(mut file) => {
+            let count = read_full(&mut file, buffer);
+            &buffer[..count]
+        }
         Err(error) => {
             let _ = tell(rt, name, error);
-            Vec::new(rt.alloc())
+            &[]
         }
     }
 }
 
 // The record after the file base: parties that own, serve and offer, three links, tokens unread.
 pub fn base(rt: &HostRuntime) -> Store {
-    let input = load(rt, "base");
+    let mut bytes = [0; ROOM];
+    let input = load(rt, "base", &mut bytes);
     let mut answers = [77; PLACES];
-    monitor::run_file(Store::fresh(), input.as_slice(), &mut answers).store
+    monitor::run_file(Store::fresh(), input, &mut answers).store
 }
 
 // A record that is not sound: its last transaction number is 60001.

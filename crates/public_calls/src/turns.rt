@@ -2,11 +2,10 @@
 ghost use Rattle.std.specs.Prelude.{◌≤◌};
 
 use super::show;
-use super::stored::{PLACES, first_bytes, kept, load, unsound};
-use hex_io::Hex;
+use super::stored::{PLACES, kept, load, read_full, unsound};
 use listing::Turned;
 use monitor::Store;
-use std::io::Read;
+use std::fs::File;
 use std::{fs, io};
 
 // The bytes of text, and whether the rest of its buffer is as it was.
@@ -65,7 +64,9 @@ impl Case {
             kept(m, turned.store)
         )?;
         show_text(rt, out, turned.written)?;
-        println!(rt; "input{}", Hex(input))?;
+        print!(rt; "input")?;
+        show::bytes(rt, input);
+        println!(rt)?;
         show::places(rt, places)?;
         Ok(turned)
     }
@@ -86,15 +87,15 @@ impl Case {
     }
 
     // Two calls, the first bytes of them read for a turn, the rest behind what that leaves.
-    fn chunk_turns(self, rt: &impl Print, mut file: &[u8], cut: usize) -> io::Result<()>
+    fn chunk_turns(self, rt: &impl Print, file: &mut File, cut: usize) -> io::Result<()>
         requires { cut ≤ 32 }
     {
         let mut buffer = [0xEE; 32];
         let input: &mut [u8] = &mut buffer;
-        let count = file.read(&mut input[..cut])?;
+        let count = read_full(file, &mut input[..cut]);
         let first = self.turn(rt, Store::fresh(), input, count, false)?;
         let more = match input.get_mut(first.kept..) {
-            Some(rest) => file.read(rest)?,
+            Some(rest) => read_full(file, rest),
             None => 0,
         };
         self.end_turns(rt, first.store, input, first.kept.saturating_add(more))
@@ -111,12 +112,9 @@ impl Case {
     ) -> io::Result<()>
         requires { size ≤ 32 }
     {
-        let file = load(rt, self.name);
         let mut buffer = [0xEE; 32];
         let input = &mut buffer[..size];
-        for (place, byte) in input.iter_mut().zip(file.as_slice()) {
-            *place = *byte;
-        }
+        load(rt, self.name, input);
         self.turn(rt, m, input, count, ended)?;
         Ok(())
     }
@@ -124,8 +122,8 @@ impl Case {
     fn read_in_two(self, rt: &HostRuntime, cut: usize) -> io::Result<()>
         requires { cut ≤ 32 }
     {
-        let file = fs::open(rt, self.name)?;
-        self.chunk_turns(rt, first_bytes(rt, file).as_slice(), cut)
+        let mut file = fs::open(rt, self.name)?;
+        self.chunk_turns(rt, &mut file, cut)
     }
 }
 

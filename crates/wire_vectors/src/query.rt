@@ -12,13 +12,15 @@ pub fn bytes<R: Read, const N: usize>(source: &mut R) -> Option<[u8; N]> {
     Some(bytes)
 }
 
-// The next numbers, as many as the array has.
-fn numbers<R: Read, const N: usize>(source: &mut R) -> Option<[u32; N]> {
+// The numbers at the front of these bytes, as many as the array has, and 0 past the last. A query is read at once, since an input may keep what was
+// written in packets.
+fn numbers<const N: usize>(query: &[u8]) -> [u32; N] {
     let mut numbers = [0; N];
-    for number in &mut numbers {
-        *number = u32::from_le_bytes(bytes(source)?);
+    let (fours, _) = query.as_chunks::<4>();
+    for (number, four) in numbers.iter_mut().zip(fours) {
+        *number = u32::from_le_bytes(*four);
     }
-    Some(numbers)
+    numbers
 }
 
 // Bytes that are read: as many as the count says.
@@ -32,28 +34,30 @@ pub fn answer_read<R: Read>(source: &mut R, out: &impl Print, count: u8) -> Opti
 }
 
 // By hand, here and below: this program alone reads them so, and the types are of other crates.
-fn request<R: Read>(source: &mut R) -> Option<Request> {
-    let [service, token, reply, tx] = numbers::<R, 4>(source)?;
-    Some(Request {
+fn request(query: &[u8]) -> Request {
+    let [service, token, reply, tx] = numbers::<4>(query);
+    Request {
         service,
         token,
         reply,
         tx,
-    })
+    }
 }
 
 // A request that is written into so many bytes, at most 16, which hold ee.
 pub fn answer_write<R: Read>(source: &mut R, out: &impl Print, room: u8) -> Option<()> {
     let mut buffer = [0xEE; 16];
     let lent = buffer.get_mut(..usize::from(room))?;
-    let asked = request(source)?;
-    let _ = show::write(out, lent, asked);
+    let query = bytes::<R, 16>(source)?;
+    let _ = show::write(out, lent, request(&query));
     Some(())
 }
 
-fn answer<R: Read>(source: &mut R) -> Option<Answer> {
-    let code = i64::from_le_bytes(bytes(source)?);
-    let [value, event, token, service, tx] = numbers::<R, 5>(source)?;
+// The code's eight bytes come before the other fields.
+fn answer(query: &[u8]) -> Option<Answer> {
+    let (eights, _) = query.as_chunks::<8>();
+    let code = i64::from_le_bytes(*eights.first()?);
+    let [value, event, token, service, tx] = numbers::<5>(query.get(8..)?);
     Some(Answer {
         code,
         value,
@@ -69,8 +73,8 @@ pub fn answer_of<R: Read>(source: &mut R, out: &impl Print, count: u8) -> Option
     if count != 0 {
         return None;
     }
-    let asked = Call::from(numbers(source)?);
-    let answered = answer(source)?;
-    let _ = show::of(out, asked, answered);
+    let query = bytes::<R, 52>(source)?;
+    let (call, rest) = query.split_at(24);
+    let _ = show::of(out, Call::from(numbers(call)), answer(rest)?);
     Some(())
 }
