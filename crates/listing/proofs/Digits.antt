@@ -1,6 +1,6 @@
 -- Laws of decimal digits, fields and lines.
 -- Assumes nothing.
-use Rattle.std.proofs.Common.{◌≡◌, ℕ, zero, suc, ◌+◌, ◌*◌, ◌/◌, ◌%◌, ◌^◌, ◌≤◌, ◌<◌, true, false, List, [], ◌∷◌, ◌++◌, ℤ, pos, negsuc, length, take, drop, get_or, refl, ap, sym, ◌∙◌, append_assoc, append-nil, length-append, length-drop, take-append-drop, add-one, arith, ⊎_elim, lt-ltb, le-ltb, ltb-true, nat_abs, length-take, length-take-le, drop-drop, zero-add, add-zero, suc-add, w64, SFits, to_z, of_z, to_z-of_z}
+use Rattle.std.proofs.Common.{◌≡◌, ℕ, zero, suc, ◌+◌, ◌*◌, ◌/◌, ◌%◌, ◌^◌, ◌≤◌, ◌<◌, true, false, List, [], ◌∷◌, ◌++◌, ℤ, pos, negsuc, length, take, drop, get_or, refl, ap, sym, ◌∙◌, append_assoc, append-nil, length-append, length-drop, take-append-drop, add-one, arith, ⊎_elim, lt-ltb, le-ltb, ltb-true, nat_abs, length-take, length-take-le, drop-drop, zero-add, add-zero, suc-add}
 use Rattle.std.specs.Int.Signed.{lt_z}
 use Rattle.std.proofs.Math.ListN.{get_or-append}
 use Rattle.std.specs.Simd.{first_chunks}
@@ -68,32 +68,16 @@ field_is (negsuc n) after size e = rw e (ap (λ (l : List ℕ). l ++ (after ∷ 
 pub field_short : (z : ℤ) (after : ℕ) → length (field z after) ≤ 22
 field_short z after = rw (field_is z after (nat_abs z) refl) (simp length-append (omega (arith, sign_short z, decimal_short (nat_abs z))))
 
--- a field of a number that was read
-pub field_read : (z : ℤ) (after : ℕ) {l m : List ℕ} {i j : ℕ} → Puts l i (field (to_z w64 (of_z w64 z)) after) m j → SFits w64 z → Puts l i (field z after) m j
-field_read z after p fits = rw (to_z-of_z fits) at p
+pub field_same : (y z : ℤ) (after : ℕ) {l m : List ℕ} {i j : ℕ} → Puts l i (field y after) m j → y ≡ z → Puts l i (field z after) m j
+field_same y z after p e = rw e at p
 
 -- ---- lines
 
--- the first so many of a line's fields, each with a space behind it
-unfoldable pub fields_of : List ℤ → ℕ → List ℕ
-fields_of answers zero = []
-fields_of answers (suc n) = fields_of answers n ++ field (get_or answers n (pos 0)) 32
-
-pub line_is : (answers : List ℤ) → fields_of answers 5 ++ field (get_or answers 5 (pos 0)) 10 ≡ line_of answers
-unfolding fields_of line_of
-line_is answers = refl
-
-pub fields_short : (answers : List ℤ) (n : ℕ) → length (fields_of answers n) ≤ n * 22
-unfolding fields_of
-fields_short answers zero = omega arith
-fields_short answers (suc n) = simp length-append (omega (arith, fields_short answers n, field_short (get_or answers n (pos 0)) 32))
-
 pub line_short : (answers : List ℤ) → length (line_of answers) ≤ 132
-line_short answers = omega (arith, simp length-append at (ap length (line_is answers)), fields_short answers 5, field_short (get_or answers 5 (pos 0)) 10)
-
-pub fields_more : (answers : List ℤ) (n : ℕ) → fields_of answers (n + 1) ≡ fields_of answers n ++ field (get_or answers n (pos 0)) 32
-unfolding fields_of
-fields_more answers n = rw add-one refl
+unfolding line_of
+line_short answers =
+    let short = λ (n after : ℕ). field_short (get_or answers n (pos 0)) after in
+    simp length-append (omega (arith, short 0 32, short 1 32, short 2 32, short 3 32, short 4 32, short 5 10))
 
 lines_more : (n : ℕ) (answers : List ℤ) → lines_of (suc n) answers ≡ lines_of n answers ++ line_of (drop (n * 6) answers)
 unfolding lines_of
@@ -122,34 +106,16 @@ unfolding lines_of
 lines_short zero answers = omega arith
 lines_short (suc n) answers = simp length-append (omega (arith, line_short answers, lines_short n (drop 6 answers)))
 
--- The lines of the first n calls have been put, and of the next one so many fields: there is room for one more.
-pub lines_room : {l m : List ℕ} (answers : List ℤ) (n : ℕ) (call : List ℤ) (few : ℕ) {at : ℕ}
-    → Puts l 0 (lines_of n answers ++ fields_of call few) m at → at ≤ n * 132 + few * 22
-lines_room answers n call few p =
-    omega (arith, p.ends, length-append (lines_of n answers) (fields_of call few), lines_short n answers, fields_short call few)
-
-module _ {l m more : List ℕ} {at end : ℕ} (answers : List ℤ) (n : ℕ) (call : List ℤ) where
-  pub field_next : (few : ℕ) → Puts l 0 (lines_of n answers ++ fields_of call few) m at → Puts m at (field (get_or call few (pos 0)) 32) more end
-      → Puts l 0 (lines_of n answers ++ fields_of call (few + 1)) more end
-  field_next few p q =
-      rw (fields_more call few, ← append_assoc (lines_of n answers) (fields_of call few) (field (get_or call few (pos 0)) 32)) (puts_then p q)
-
-  pub line_next : n < length answers / 6 → call ≡ get_or (first_chunks 6 (length answers / 6) answers) n []
-      → Puts l 0 (lines_of n answers ++ fields_of call 5) m at → Puts m at (field (get_or call 5 (pos 0)) 10) more end
-      → Puts l 0 (lines_of (n + 1) answers) more end
-  line_next less e p q =
-      let line : fields_of call 5 ++ field (get_or call 5 (pos 0)) 10 ≡ line_of (drop (n * 6) answers) =
-      line_is call
-      ∙ ap line_of (e ∙ call_is (length answers / 6) n answers less)
-      ∙ line_taken (drop (n * 6) answers) (omega (arith, length-drop (n * 6) answers))
-      in
-      rw (add-one n, lines_more n answers, ← line, ← append_assoc (lines_of n answers) (fields_of call 5) (field (get_or call 5 (pos 0)) 10)) (puts_then p q)
-
-pub call_long : (answers : List ℤ) (n : ℕ) (call : List ℤ) → n < length answers / 6 → call ≡ get_or (first_chunks 6 (length answers / 6) answers) n []
-    → length call ≡ 6
-call_long answers n call less e =
-    ap length (e ∙ call_is (length answers / 6) n answers less)
-    ∙ length-take-le 6 (drop (n * 6) answers) (omega (arith, length-drop (n * 6) answers))
+pub line_next : {l m more : List ℕ} {at end : ℕ} {calls : List (List ℤ)} (answers : List ℤ) (n : ℕ)
+    → calls ≡ first_chunks 6 (length answers / 6) answers → n < length answers / 6
+    → Puts l 0 (lines_of n answers) m at → Puts m at (line_of (get_or calls n [])) more end → Puts l 0 (lines_of (n + 1) answers) more end
+line_next answers n e less p q =
+    let line =
+    ap (λ calls. line_of (get_or calls n [])) e
+    ∙ ap line_of (call_is (length answers / 6) n answers less)
+    ∙ line_taken (drop (n * 6) answers) (omega (arith, length-drop (n * 6) answers))
+    in
+    rw (add-one n, lines_more n answers, ← line) (puts_then p q)
 
 pub lines_append : (a b : ℕ) (xs ys : List ℤ) → length xs ≡ a * 6 → lines_of (a + b) (xs ++ ys) ≡ lines_of a xs ++ lines_of b ys
 unfolding lines_of

@@ -2,7 +2,7 @@
 // A struct of the two, or slices from the place on, would be no plainer: each contract speaks of the whole buffer and of both places all the same. They were
 // slower, too (in Rust a line takes a quarter longer with the struct).
 ghost use Rattle.std.specs.Prelude.{◌+◌, ◌*◌, ◌/◌, ◌<◌, ◌≤◌, length};
-ghost use Rattle.listing.specs.Text.{sign, decimal, field, lines_of, refusal_line, Puts};
+ghost use Rattle.listing.specs.Text.{sign, decimal, field, line_of, lines_of, refusal_line, Puts};
 
 use rules::codes;
 
@@ -48,8 +48,22 @@ fn put_field(out: &mut [u8], at: usize, n: i64, after: u8) -> usize
     end + 1
 }
 
-// The lines of the answers, from the front of the buffer on: six on a line, one space between, a line feed at the end.
-#[tactic(auto, using(crate::proofs::Puts::puts_none), unfolding(crate::specs::Text::lines_of, crate::proofs::Digits::fields_of))]
+// The line of a call's answers: six, one space between, a line feed at the end.
+#[tactic(auto, using(crate::proofs::Digits::field_short))]
+fn put_line(out: &mut [u8], at: usize, call: &[i64; 6]) -> usize
+    requires { at + 132 ≤ length out.old }
+    ensures { Puts out.old at (line_of call.now) out.new result }
+{
+    let at = put_field(&mut *out, at, call[0], b' ');
+    let at = put_field(&mut *out, at, call[1], b' ');
+    let at = put_field(&mut *out, at, call[2], b' ');
+    let at = put_field(&mut *out, at, call[3], b' ');
+    let at = put_field(&mut *out, at, call[4], b' ');
+    put_field(&mut *out, at, call[5], b'\n')
+}
+
+// The lines of the answers, from the front of the buffer on.
+#[tactic(auto, using(crate::proofs::Puts::puts_none, crate::proofs::Digits::lines_short), unfolding(crate::specs::Text::lines_of))]
 pub(crate) fn put_lines(out: &mut [u8], answers: &[i64]) -> usize
     requires { length answers.now / 6 * 132 ≤ length out.old }
     ensures { Puts out.old 0 (lines_of (length answers.now / 6) answers.now) out.new result }
@@ -57,10 +71,7 @@ pub(crate) fn put_lines(out: &mut [u8], answers: &[i64]) -> usize
     let (calls, _) = answers.as_chunks::<6>();
     let mut at = 0;
     for call in calls {
-        for n in &call[..5] {
-            at = put_field(&mut *out, at, *n, b' ');
-        }
-        at = put_field(&mut *out, at, call[5], b'\n');
+        at = put_line(&mut *out, at, call);
     }
     at
 }

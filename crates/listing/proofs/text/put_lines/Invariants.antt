@@ -1,10 +1,5 @@
-use Rattle.std.proofs.Common.{◌++◌}
 use Rattle.listing.specs.Text.{Puts, lines_of}
-use Rattle.listing.proofs.Digits.{fields_of}
 use Rattle.listing.proofs.text.put_lines.Given as goal
 
 abbrev pub invariant-loop-call : goal.invariant-loop-call
 invariant-loop-call l = Puts l.initial.out 0 (lines_of l.call-index l.answers) l.out l.at
-
-abbrev pub invariant-loop-n : goal.invariant-loop-n
-invariant-loop-n l = Puts l.fn.out 0 (lines_of l.call-index l.answers ++ fields_of l.call l.n-index) l.out l.at
